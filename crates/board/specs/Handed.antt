@@ -1,0 +1,45 @@
+-- Document 01, "In a board handed in": the entry point. A field outside its range counts as its reset value; an event answered 0 stores the
+-- board so; result 6 sets the lost count to 0 on the board handed in; every other result leaves that board as it is.
+-- Assumes nothing.
+use mathlib.Core.Bool.{Bool, cond}
+use mathlib.Core.List.{List}
+use Prim.Native.Nat.{ℕ}
+use lib.Dec.{eqb, ltb}
+use lib.ListN.{set, replicate}
+use Rattle.words.specs.Table.{tab}
+use Rattle.counter.specs.Setters.{withLost}
+use Rattle.counter.specs.Repair.{repaired, resetChannel}
+use Rattle.counter.specs.declared.Channel.{Channel}
+use Rattle.ports.specs.Pins.{repairedPins, resetPins}
+use Rattle.ports.specs.Virtuals.{repairedVirtuals, resetVirtuals}
+use Rattle.control.specs.Whole.{repairedCore, resetCore}
+use Rattle.calls.specs.Reply.{Reply, reply}
+use Rattle.calls.specs.declared.Event.{Event}
+use Rattle.board.specs.Inputs.{channelIn}
+use Rattle.board.specs.Respond.{withChannels, respond}
+use Rattle.board.specs.declared.Board.{Board}
+
+unfoldable pub resetBoard : Board
+resetBoard = record { channels = replicate 6 resetChannel; pins = resetPins; virtuals = resetVirtuals; core = resetCore }
+
+unfoldable pub repairedBoard : Board → Board
+repairedBoard b =
+    record {
+      channels = tab 6 (λ c. repaired (channelIn (b .channels) c));
+      pins = repairedPins (b .pins);
+      virtuals = repairedVirtuals (b .virtuals);
+      core = repairedCore (b .core);
+    }
+
+-- the lost count of channel m to 0
+unfoldable pub lostCleared : ℕ → Board → Board
+lostCleared m b = cond (ltb m 6) (withChannels (set (b .channels) m (withLost 0 (channelIn (b .channels) m))) b) b
+
+-- what stays of the board b handed in, by the reply of the repaired one
+unfoldable pub kept : Board → Event → Reply Board → Reply Board
+kept b e r =
+    cond (eqb (r .answer .result) 0) r
+    (cond (eqb (r .answer .result) 6) (reply (lostCleared (e .member) b) (r .answer)) (reply b (r .answer)))
+
+unfoldable pub applied : Board → Event → Reply Board
+applied b e = kept b e (respond (repairedBoard b) e)

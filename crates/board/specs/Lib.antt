@@ -1,0 +1,5 @@
+pub mod Inputs
+pub mod Step
+pub mod Respond
+pub mod Handed
+pub mod Runs

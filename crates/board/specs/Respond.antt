@@ -1,0 +1,96 @@
+-- Document 01: every event on a board whose fields are in their ranges. The refusals 2, 1 and 3 are decided here, in this order; 4, 7, 6 and 5 by the calls.
+-- Assumes nothing.
+use mathlib.Core.Bool.{Bool, true, cond}
+use mathlib.Core.List.{List}
+use Prim.Native.Nat.{ℕ}
+use lib.Dec.{eqb, ltb}
+use lib.ListN.{set}
+use Rattle.counter.specs.declared.Channel.{Channel}
+use Rattle.ports.specs.Pins.{pinAt, putPin}
+use Rattle.ports.specs.Virtuals.{virtualAt, putVirtual}
+use Rattle.ports.specs.declared.Pin.{Pin}
+use Rattle.ports.specs.declared.Pins.{Pins}
+use Rattle.ports.specs.declared.Virtual.{Virtual}
+use Rattle.ports.specs.declared.Virtuals.{Virtuals}
+use Rattle.control.specs.declared.Core.{Core}
+use Rattle.calls.specs.Reply.{Reply, reply, refuse, accept}
+use Rattle.calls.specs.Fields.{fits}
+use Rattle.calls.specs.ChannelCalls.{channelCall}
+use Rattle.calls.specs.PinCalls.{pinCall}
+use Rattle.calls.specs.VirtualCalls.{virtualCall}
+use Rattle.calls.specs.BoardCalls.{boardCall}
+use Rattle.calls.specs.declared.Event.{Event}
+use Rattle.board.specs.Inputs.{channelIn}
+use Rattle.board.specs.Step.{stepped}
+use Rattle.board.specs.declared.Board.{Board}
+use Rattle.board.specs.declared.Outcome.{Outcome}
+
+-- ---- the classes of kinds
+
+pub data Class : Type 0 where
+  step channel pin virtual board unknown : Class
+
+abbrev pub classOf : ℕ → Class
+classOf k =
+    cond (eqb k 0) step (cond (ltb k 13) channel (cond (ltb k 18) pin (cond (ltb k 22) virtual (cond (ltb k 30) board unknown))))
+
+-- ---- a board with one of its parts changed
+
+abbrev pub withChannels : List Channel → Board → Board
+withChannels cs b = record { channels = cs; pins = b .pins; virtuals = b .virtuals; core = b .core }
+
+abbrev pub withPins : Pins → Board → Board
+withPins x b = record { channels = b .channels; pins = x; virtuals = b .virtuals; core = b .core }
+
+abbrev pub withVirtuals : Virtuals → Board → Board
+withVirtuals x b = record { channels = b .channels; pins = b .pins; virtuals = x; core = b .core }
+
+abbrev pub withCore : Core → Board → Board
+withCore k b = record { channels = b .channels; pins = b .pins; virtuals = b .virtuals; core = k }
+
+-- ---- a call on a member's own record, put back in its place
+
+abbrev pub onChannel : ℕ → (Channel → Reply Channel) → Board → Reply Board
+onChannel m f b =
+    let r : Reply Channel = f (channelIn (b .channels) m) in
+    reply (withChannels (set (b .channels) m (r .state)) b) (r .answer)
+
+abbrev pub onPin : ℕ → (Pin → Reply Pin) → Board → Reply Board
+onPin m f b =
+    let r : Reply Pin = f (pinAt (b .pins) m) in
+    reply (withPins (putPin m (r .state) (b .pins)) b) (r .answer)
+
+abbrev pub onVirtual : ℕ → (Virtual → Reply Virtual) → Board → Reply Board
+onVirtual m f b =
+    let r : Reply Virtual = f (virtualAt (b .virtuals) m) in
+    reply (withVirtuals (putVirtual m (r .state) (b .virtuals)) b) (r .answer)
+
+abbrev pub onCore : (Core → Reply Core) → Board → Reply Board
+onCore f b =
+    let r : Reply Core = f (b .core) in
+    reply (withCore (r .state) b) (r .answer)
+
+-- ---- every event
+
+-- 1 where the member is not one of n, then 3 where a field does not fit
+abbrev pub checked : ℕ → Event → Board → Reply Board → Reply Board
+checked n e b r = cond (ltb (e .member) n) (cond (fits e) r (refuse 3 b)) (refuse 1 b)
+
+-- the answer of an event by its class, with a step that `stepOf` makes of V and W
+unfoldable pub respondBy : (ℕ → ℕ → Board → Board) → Class → Board → Event → Reply Board
+respondBy stepOf step b e = cond (fits e) (accept (stepOf (e .v) (e .w) b)) (refuse 3 b)
+respondBy stepOf channel b e = checked 6 e b (onChannel (e .member) (channelCall (b .core .clock .timestamp) e) b)
+respondBy stepOf pin b e = checked 48 e b (onPin (e .member) (pinCall (b .core .safety .writes) e) b)
+respondBy stepOf virtual b e = checked 6 e b (onVirtual (e .member) (virtualCall (b .core .safety .writes) e) b)
+respondBy stepOf board b e = checked 1 e b (onCore (boardCall e) b)
+respondBy stepOf unknown b e = refuse 2 b
+
+unfoldable pub respondWith : (ℕ → ℕ → Board → Board) → Board → Event → Reply Board
+respondWith stepOf b e = respondBy stepOf (classOf (e .kind)) b e
+
+unfoldable pub respond : Board → Event → Reply Board
+respond b e = respondWith stepped b e
+
+-- the same, as the code's struct has it
+abbrev pub outcome : Reply Board → Outcome
+outcome r = record { board = r .state; answer = r .answer }

@@ -1,0 +1,62 @@
+-- Document 01, "The step": the six parts, in their order.
+-- Assumes nothing.
+use mathlib.Core.Bool.{Bool}
+use mathlib.Core.List.{List}
+use Prim.Native.Nat.{ℕ}
+use Rattle.words.specs.Bits.{bit}
+use Rattle.counter.specs.declared.Channel.{Channel}
+use Rattle.ports.specs.Pins.{pinLevel, sensedWith, driven}
+use Rattle.ports.specs.Virtuals.{virtualLevels}
+use Rattle.ports.specs.declared.Pins.{Pins}
+use Rattle.ports.specs.declared.Virtuals.{Virtuals}
+use Rattle.control.specs.Clock.{advanced, risesAt, ticks}
+use Rattle.control.specs.Watchdog.{watched}
+use Rattle.control.specs.Safety.{guarded}
+use Rattle.control.specs.declared.Clock.{Clock}
+use Rattle.control.specs.declared.Watchdog.{Watchdog}
+use Rattle.control.specs.declared.Safety.{Safety}
+use Rattle.control.specs.declared.Core.{Core}
+use Rattle.board.specs.Inputs.{extouts, allNext}
+use Rattle.board.specs.declared.Scene.{Scene}
+use Rattle.board.specs.declared.Board.{Board}
+
+-- what every channel can see: the lines of this step, the ExtOuts of the last, the clock and the pins' levels of this step, and the virtual
+-- outputs' levels by the safemode that stood before the step
+unfoldable pub sceneOf : ℕ → ℕ → Clock → ℕ → ℕ → Scene
+sceneOf v outs clock levels virtuals =
+    record {
+      lines = v;
+      outs = outs;
+      ticks = ticks (clock .prescaler);
+      levels = levels;
+      virtuals = virtuals;
+      timestamp = clock .timestamp;
+      rises = risesAt (clock .prescaler);
+    }
+
+-- parts 3 and 4: the watchdog, then safemode
+unfoldable pub coreNext : Bool → Core → Core
+coreNext pin47 k =
+    let dog : Watchdog = watched (k .watchdog) in
+    record { clock = advanced (k .clock); watchdog = dog; safety = guarded (dog .expired) pin47 (k .safety) }
+
+-- with pin levels that `level` gives from the pins and W
+unfoldable pub stepWith : (Pins → ℕ → ℕ → Bool) → ℕ → ℕ → Board → Board
+stepWith level v w b =
+    -- part 2
+    let pins : Pins = sensedWith level w (b .pins) in
+    -- parts 1, 3 and 4
+    let core : Core = coreNext (bit (pins .level) 47) (b .core) in
+    -- part 5
+    let virtuals : ℕ = virtualLevels (b .core .safety .safemode) (b .virtuals) in
+    let channels : List Channel = allNext (sceneOf v (extouts (b .channels)) (core .clock) (pins .level) virtuals) (b .channels) in
+    -- part 6
+    record {
+      channels = channels;
+      pins = driven (extouts channels) (core .safety .safemode) pins;
+      virtuals = b .virtuals;
+      core = core;
+    }
+
+unfoldable pub stepped : ℕ → ℕ → Board → Board
+stepped v w b = stepWith pinLevel v w b

@@ -1,0 +1,73 @@
+// The entry point: any board, any event.
+ghost use mathlib.Core.Path.{_≡_};
+ghost use Rattle.board.specs.Respond.{outcome};
+ghost use Rattle.board.specs.Handed.{resetBoard, repairedBoard, lostCleared, applied};
+ghost use Rattle.counter.specs.Repair.{repaired};
+
+use crate::Board;
+use crate::Outcome;
+use calls::Event;
+use counter::Channel;
+
+fn repair_channel(c: Channel) -> Channel
+    ensures { λ r. ⌜ r ≡ repaired c ⌝ }
+{
+    c.repair()
+}
+
+impl Board {
+    // Each field outside its range counts as its value at reset.
+    pub fn repair(self) -> Board
+        ensures { λ r. ⌜ r ≡ repairedBoard self ⌝ }
+    {
+        let cs = self.channels;
+        let pins = self.pins;
+        let virtuals = self.virtuals;
+        let core = self.core;
+        let sound = [
+            repair_channel(cs[0]),
+            repair_channel(cs[1]),
+            repair_channel(cs[2]),
+            repair_channel(cs[3]),
+            repair_channel(cs[4]),
+            repair_channel(cs[5]),
+        ];
+        Board { channels: sound, pins: pins.repair(), virtuals: virtuals.repair(), core: core.repair() }
+    }
+
+    // The lost count of a channel to 0.
+    fn clear_lost(mut self, member: u8) -> Board
+        ensures { λ r. ⌜ r ≡ lostCleared member self ⌝ }
+    {
+        let m = member as usize;
+        if m < 6 {
+            let mut c = self.channels[m];
+            c.lost = 0;
+            self.channels[m] = c;
+        }
+        self
+    }
+}
+
+// The answer of any event on any board, and the next board.
+pub fn apply(board: Board, event: Event) -> Outcome
+    ensures { λ r. ⌜ r ≡ outcome (applied board event) ⌝ }
+{
+    let r = board.repair().respond(event);
+    let answer = r.answer;
+    if answer.result == 0 {
+        return r;
+    }
+    if answer.result == 6 {
+        return Outcome { board: board.clear_lost(event.member), answer: answer };
+    }
+    Outcome { board: board, answer: answer }
+}
+
+// A board at reset.
+pub fn reset() -> Board
+    ensures { λ r. ⌜ r ≡ resetBoard ⌝ }
+{
+    let c = counter::reset();
+    Board { channels: [c; 6], pins: ports::reset_pins(), virtuals: ports::reset_virtuals(), core: control::reset() }
+}

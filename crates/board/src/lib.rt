@@ -1,0 +1,45 @@
+// The board: six channels, 48 pins, six virtual outputs and the board's own part. `apply` is the
+// entry point: it takes every board and every event there is and answers as document 01 says.
+ghost use mathlib.Core.Path.{_≡_};
+ghost use Rattle.board.specs.Step.{stepped};
+ghost use Rattle.board.specs.Respond.{respond, outcome};
+ghost use Rattle.board.specs.Handed.{resetBoard, repairedBoard, applied};
+
+mod entry;
+mod respond;
+mod step;
+
+pub use entry::apply;
+pub use entry::reset;
+
+use calls::Answer;
+use control::Core;
+use counter::Channel;
+use ports::Pins;
+use ports::Virtuals;
+
+#[repr(C)]
+pub struct Board {
+    pub channels: [Channel; 6],
+    pub pins: Pins,
+    pub virtuals: Virtuals,
+    pub core: Core,
+}
+
+#[repr(C)]
+pub struct Outcome {
+    pub board: Board,
+    pub answer: Answer,
+}
+
+// What every channel can see in a step: V, the ExtOuts of the last step, the ticks, the levels of
+// the pins and of the virtual outputs, a bit for each; the timestamp, and whether it rises.
+pub struct Scene {
+    pub lines: u64,
+    pub outs: u64,
+    pub ticks: u64,
+    pub levels: u64,
+    pub virtuals: u64,
+    pub timestamp: u32,
+    pub rises: bool,
+}

@@ -1,0 +1,112 @@
+// Every event on a board whose fields are in their ranges.
+ghost use mathlib.Core.Path.{_≡_};
+ghost use Rattle.calls.specs.Reply.{refuse};
+ghost use Rattle.board.specs.Respond.{step, channel, pin, virtual, board, respondBy, respond, outcome};
+ghost use Rattle.board.specs.Step.{stepped};
+
+use crate::Board;
+use crate::Outcome;
+use calls::Event;
+
+impl Board {
+    fn refuse(self, result: u32) -> Outcome
+        ensures { λ r. ⌜ r ≡ outcome (refuse result self) ⌝ }
+    {
+        Outcome { board: self, answer: calls::number(result, 0) }
+    }
+
+    fn step_event(self, e: Event) -> Outcome
+        ensures { λ r. ⌜ r ≡ outcome (respondBy stepped step self e) ⌝ }
+    {
+        if !calls::fits(e) {
+            return self.refuse(3);
+        }
+        Outcome { board: self.step(e.v, e.w), answer: calls::number(0, 0) }
+    }
+
+    fn channel_event(mut self, e: Event) -> Outcome
+        ensures { λ r. ⌜ r ≡ outcome (respondBy stepped channel self e) ⌝ }
+    {
+        let m = e.member as usize;
+        if 6 <= m {
+            return self.refuse(1);
+        }
+        if !calls::fits(e) {
+            return self.refuse(3);
+        }
+        let c = self.channels[m];
+        let r = calls::channel_call(self.core.clock.timestamp, e, c);
+        let next = r.channel;
+        let answer = r.answer;
+        self.channels[m] = next;
+        Outcome { board: self, answer: answer }
+    }
+
+    fn pin_event(mut self, e: Event) -> Outcome
+        ensures { λ r. ⌜ r ≡ outcome (respondBy stepped pin self e) ⌝ }
+    {
+        let m = e.member as u64;
+        if 48 <= m {
+            return self.refuse(1);
+        }
+        if !calls::fits(e) {
+            return self.refuse(3);
+        }
+        let pins = self.pins;
+        let r = calls::pin_call(self.core.safety.writes, e, pins.at(m));
+        let next = r.pin;
+        let answer = r.answer;
+        self.pins = pins.put(m, next);
+        Outcome { board: self, answer: answer }
+    }
+
+    fn virtual_event(mut self, e: Event) -> Outcome
+        ensures { λ r. ⌜ r ≡ outcome (respondBy stepped virtual self e) ⌝ }
+    {
+        let m = e.member as u64;
+        if 6 <= m {
+            return self.refuse(1);
+        }
+        if !calls::fits(e) {
+            return self.refuse(3);
+        }
+        let outputs = self.virtuals;
+        let r = calls::virtual_call(self.core.safety.writes, e, outputs.at(m));
+        let next = r.output;
+        let answer = r.answer;
+        self.virtuals = outputs.put(m, next);
+        Outcome { board: self, answer: answer }
+    }
+
+    fn board_event(mut self, e: Event) -> Outcome
+        ensures { λ r. ⌜ r ≡ outcome (respondBy stepped board self e) ⌝ }
+    {
+        if 1 <= e.member {
+            return self.refuse(1);
+        }
+        if !calls::fits(e) {
+            return self.refuse(3);
+        }
+        let core = self.core;
+        let r = calls::board_call(e, core);
+        let next = r.core;
+        let answer = r.answer;
+        self.core = next;
+        Outcome { board: self, answer: answer }
+    }
+
+    // The answer of an event and the next board, on a board whose fields are in their ranges.
+    pub fn respond(self, e: Event) -> Outcome
+        ensures { λ r. ⌜ r ≡ outcome (respond self e) ⌝ }
+    {
+        let kind = e.kind;
+        match kind {
+            0 => self.step_event(e),
+            1..=12 => self.channel_event(e),
+            13..=17 => self.pin_event(e),
+            18..=21 => self.virtual_event(e),
+            22..=29 => self.board_event(e),
+            _ => self.refuse(2),
+        }
+    }
+}

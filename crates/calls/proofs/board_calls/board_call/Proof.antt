@@ -1,0 +1,98 @@
+use borrow.Author.Needs.{needs}
+use Rattle.calls.proofs.board_calls.board_call.Statement.{statement}
+use Rattle.calls.proofs.board_calls.board_call.Tie as tie
+use Rattle.calls.proofs.board_calls.board_call.Reads as reads
+use Rattle.calls.proofs.board_calls.board_call.Lts as lts
+use Rattle.calls.proofs.board_calls.control_write.Reads as control-write-reads
+use Rattle.calls.proofs.board_calls.enable_write.Reads as enable-write-reads
+use Rattle.calls.proofs.board_calls.interval_write.Reads as interval-write-reads
+use Rattle.calls.proofs.board_calls.safemode_clear.Reads as safemode-clear-reads
+use Rattle.calls.proofs.board_calls.status.Reads as status-reads
+use Rattle.calls.proofs.board_calls.timestamp_read.Reads as timestamp-read-reads
+use Rattle.calls.proofs.board_calls.watchdog_kick.Reads as watchdog-kick-reads
+use Rattle.calls.proofs.board_calls.writes_write.Reads as writes-write-reads
+
+-- src/board_calls.rt:115:15
+control-write-requires : tie.Need-control-write-requires
+control-write-requires c κs = search needs
+
+-- src/board_calls.rt:116:15
+writes-write-requires : tie.Need-writes-write-requires
+writes-write-requires c κs = search needs
+
+-- src/board_calls.rt:117:15
+safemode-clear-requires : tie.Need-safemode-clear-requires
+safemode-clear-requires c κs = search needs
+
+-- src/board_calls.rt:118:15
+interval-write-requires : tie.Need-interval-write-requires
+interval-write-requires c κs = search needs
+
+-- src/board_calls.rt:119:15
+enable-write-requires : tie.Need-enable-write-requires
+enable-write-requires c κs = search needs
+
+-- src/board_calls.rt:120:15
+watchdog-kick-requires : tie.Need-watchdog-kick-requires
+watchdog-kick-requires c κs = search needs
+
+-- src/board_calls.rt:121:15
+timestamp-read-requires : tie.Need-timestamp-read-requires
+timestamp-read-requires c κs = search needs
+
+-- src/board_calls.rt:122:14
+status-requires : tie.Need-status-requires
+status-requires c κs = search needs
+
+-- src/board_calls.rt:110:1
+returns : tie.Need-returns
+returns c = ?
+
+-- src/board_calls.rt:110:1
+returns-2 : tie.Need-returns-2
+returns-2 c = ?
+
+-- src/board_calls.rt:110:1
+returns-3 : tie.Need-returns-3
+returns-3 c = ?
+
+-- src/board_calls.rt:110:1
+returns-4 : tie.Need-returns-4
+returns-4 c = ?
+
+-- src/board_calls.rt:110:1
+returns-5 : tie.Need-returns-5
+returns-5 c = ?
+
+-- src/board_calls.rt:110:1
+returns-6 : tie.Need-returns-6
+returns-6 c = ?
+
+-- src/board_calls.rt:110:1
+returns-7 : tie.Need-returns-7
+returns-7 c = ?
+
+-- src/board_calls.rt:110:1
+returns-8 : tie.Need-returns-8
+returns-8 c = ?
+
+pub board-call-spec : {M : Type 1} → statement M
+board-call-spec =
+    tie.close
+    (tie.spec
+    control-write-requires
+    writes-write-requires
+    safemode-clear-requires
+    interval-write-requires
+    enable-write-requires
+    watchdog-kick-requires
+    timestamp-read-requires
+    status-requires
+    returns
+    returns-2
+    returns-3
+    returns-4
+    returns-5
+    returns-6
+    returns-7
+    returns-8)

@@ -1,0 +1,25 @@
+use borrow.Author.Needs.{needs}
+use Rattle.calls.proofs.channel_calls.preload_write.Statement.{statement}
+use Rattle.calls.proofs.channel_calls.preload_write.Tie as tie
+use Rattle.calls.proofs.channel_calls.preload_write.Reads as reads
+use Rattle.calls.proofs.channel_calls.preload_write.Lts as lts
+use Rattle.calls.proofs.channel_calls.accept.Reads as accept-reads
+
+-- src/channel_calls.rt:46:9
+element-write-n : tie.Need-element-write-n
+element-write-n c = search needs
+
+-- src/channel_calls.rt:48:9
+element-write-n-2 : tie.Need-element-write-n-2
+element-write-n-2 c = search needs
+
+-- src/channel_calls.rt:50:5
+accept-requires : tie.Need-accept-requires
+accept-requires c κs = search needs
+
+-- src/channel_calls.rt:41:1
+returns : tie.Need-returns
+returns c = ?
+
+pub preload-write-spec : {M : Type 1} → statement M
+preload-write-spec = tie.close (tie.spec element-write-n element-write-n-2 accept-requires returns)

@@ -1,0 +1,24 @@
+use borrow.Author.Needs.{needs}
+use Rattle.calls.proofs.fields.limit.Statement.{statement}
+use Rattle.calls.proofs.fields.limit.Tie as tie
+use Rattle.calls.proofs.fields.limit.Reads as reads
+use Rattle.calls.proofs.fields.limit.Lts as lts
+
+-- src/fields.rt:19:18
+mul-result : tie.Need-mul-result
+mul-result c = search needs
+
+-- src/fields.rt:19:18
+array-read-result : tie.Need-array-read-result
+array-read-result c = search needs
+
+-- src/fields.rt:15:1
+returns : tie.Need-returns
+returns c = ?
+
+-- src/fields.rt:15:1
+returns-2 : tie.Need-returns-2
+returns-2 c = ?
+
+pub limit-spec : {M : Type 1} → statement M
+limit-spec = tie.close (tie.spec mul-result array-read-result returns returns-2)

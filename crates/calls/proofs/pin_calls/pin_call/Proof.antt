@@ -1,0 +1,65 @@
+use borrow.Author.Needs.{needs}
+use Rattle.calls.proofs.pin_calls.pin_call.Statement.{statement}
+use Rattle.calls.proofs.pin_calls.pin_call.Tie as tie
+use Rattle.calls.proofs.pin_calls.pin_call.Reads as reads
+use Rattle.calls.proofs.pin_calls.pin_call.Lts as lts
+use Rattle.calls.proofs.pin_calls.data_write.Reads as data-write-reads
+use Rattle.calls.proofs.pin_calls.level_read.Reads as level-read-reads
+use Rattle.calls.proofs.pin_calls.safe_data_write.Reads as safe-data-write-reads
+use Rattle.calls.proofs.pin_calls.safe_enable_write.Reads as safe-enable-write-reads
+use Rattle.calls.proofs.pin_calls.source_write.Reads as source-write-reads
+
+-- src/pin_calls.rt:66:15
+source-write-requires : tie.Need-source-write-requires
+source-write-requires c κs = search needs
+
+-- src/pin_calls.rt:67:15
+data-write-requires : tie.Need-data-write-requires
+data-write-requires c κs = search needs
+
+-- src/pin_calls.rt:68:15
+safe-data-write-requires : tie.Need-safe-data-write-requires
+safe-data-write-requires c κs = search needs
+
+-- src/pin_calls.rt:69:15
+safe-enable-write-requires : tie.Need-safe-enable-write-requires
+safe-enable-write-requires c κs = search needs
+
+-- src/pin_calls.rt:70:14
+level-read-requires : tie.Need-level-read-requires
+level-read-requires c κs = search needs
+
+-- src/pin_calls.rt:61:1
+returns : tie.Need-returns
+returns c = ?
+
+-- src/pin_calls.rt:61:1
+returns-2 : tie.Need-returns-2
+returns-2 c = ?
+
+-- src/pin_calls.rt:61:1
+returns-3 : tie.Need-returns-3
+returns-3 c = ?
+
+-- src/pin_calls.rt:61:1
+returns-4 : tie.Need-returns-4
+returns-4 c = ?
+
+-- src/pin_calls.rt:61:1
+returns-5 : tie.Need-returns-5
+returns-5 c = ?
+
+pub pin-call-spec : {M : Type 1} → statement M
+pin-call-spec =
+    tie.close
+    (tie.spec
+    source-write-requires
+    data-write-requires
+    safe-data-write-requires
+    safe-enable-write-requires
+    level-read-requires
+    returns
+    returns-2
+    returns-3
+    returns-4
+    returns-5)

@@ -1,0 +1,6 @@
+pub mod Reply
+pub mod Fields
+pub mod ChannelCalls
+pub mod PinCalls
+pub mod VirtualCalls
+pub mod BoardCalls

@@ -1,0 +1,35 @@
+-- Document 01, "One event", calls 13 to 17, each on the pin's own record. The field checks are past.
+-- Assumes nothing.
+use mathlib.Core.Bool.{Bool, cond}
+use Prim.Native.Nat.{ℕ}
+use lib.Dec.{eqb}
+use Rattle.words.specs.Bits.{flag}
+use Rattle.ports.specs.declared.Pin.{Pin}
+use Rattle.calls.specs.Reply.{Reply, accept, tell}
+use Rattle.calls.specs.declared.Event.{Event}
+
+abbrev pub withSource : ℕ → Pin → Pin
+withSource n p =
+    record { source = n; own = p .own; safedata = p .safedata; safeenable = p .safeenable; level = p .level; driven = p .driven }
+
+abbrev pub withOwn : Bool → Pin → Pin
+withOwn t p =
+    record { source = p .source; own = t; safedata = p .safedata; safeenable = p .safeenable; level = p .level; driven = p .driven }
+
+abbrev pub withSafeData : Bool → Pin → Pin
+withSafeData t p =
+    record { source = p .source; own = p .own; safedata = t; safeenable = p .safeenable; level = p .level; driven = p .driven }
+
+abbrev pub withSafeEnable : Bool → Pin → Pin
+withSafeEnable t p =
+    record { source = p .source; own = p .own; safedata = p .safedata; safeenable = t; level = p .level; driven = p .driven }
+
+-- 13 source, 14 data, 15 safe data and 16 safe enable (nothing changes with SWE 0), 17 read
+unfoldable pub pinCall : Bool → Event → Pin → Reply Pin
+pinCall writes e p =
+    let k : ℕ = e .kind in
+    cond (eqb k 13) (accept (withSource (e .v) p))
+    (cond (eqb k 14) (accept (withOwn (eqb (e .v) 1) p))
+    (cond (eqb k 15) (accept (cond writes (withSafeData (eqb (e .v) 1) p) p))
+    (cond (eqb k 16) (accept (cond writes (withSafeEnable (eqb (e .v) 1) p) p))
+    (tell (flag (p .level)) p))))

@@ -1,0 +1,27 @@
+-- Document 01, "One event", calls 18 to 21, each on the virtual output's own record. The field checks are past.
+-- Assumes nothing.
+use mathlib.Core.Bool.{Bool, cond}
+use Prim.Native.Nat.{ℕ}
+use lib.Dec.{eqb}
+use Rattle.words.specs.Bits.{flag}
+use Rattle.ports.specs.declared.Virtual.{Virtual}
+use Rattle.calls.specs.Reply.{Reply, accept, tell}
+use Rattle.calls.specs.declared.Event.{Event}
+
+abbrev pub withOwn : Bool → Virtual → Virtual
+withOwn t o = record { own = t; safedata = o .safedata; safeenable = o .safeenable }
+
+abbrev pub withSafeData : Bool → Virtual → Virtual
+withSafeData t o = record { own = o .own; safedata = t; safeenable = o .safeenable }
+
+abbrev pub withSafeEnable : Bool → Virtual → Virtual
+withSafeEnable t o = record { own = o .own; safedata = o .safedata; safeenable = t }
+
+-- 18 data, 19 safe data and 20 safe enable (nothing changes with SWE 0), 21 data read
+unfoldable pub virtualCall : Bool → Event → Virtual → Reply Virtual
+virtualCall writes e o =
+    let k : ℕ = e .kind in
+    cond (eqb k 18) (accept (withOwn (eqb (e .v) 1) o))
+    (cond (eqb k 19) (accept (cond writes (withSafeData (eqb (e .v) 1) o) o))
+    (cond (eqb k 20) (accept (cond writes (withSafeEnable (eqb (e .v) 1) o) o))
+    (tell (flag (o .own)) o)))

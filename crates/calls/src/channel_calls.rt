@@ -1,0 +1,158 @@
+// Calls 1 to 12, on the channel's own record.
+ghost use mathlib.Core.Path.{_≡_};
+ghost use Rattle.calls.specs.Reply.{channelReply, refuse, accept, tell};
+ghost use Rattle.calls.specs.ChannelCalls.{modeWrite, preloadWrite, compareWrite, routeWrite, maskWrite, start, halt, snapshot, softPreload, countRead, snapshotRead, channelStatus, channelCall};
+
+use crate::Answer;
+use crate::ChannelReply;
+use crate::Event;
+use counter::Channel;
+
+fn refuse(c: Channel, result: u32) -> ChannelReply
+    ensures { λ r. ⌜ r ≡ channelReply (refuse result c) ⌝ }
+{
+    ChannelReply { channel: c, answer: crate::number(result, 0) }
+}
+
+fn accept(c: Channel) -> ChannelReply
+    ensures { λ r. ⌜ r ≡ channelReply (accept c) ⌝ }
+{
+    ChannelReply { channel: c, answer: crate::number(0, 0) }
+}
+
+fn tell(c: Channel, value: u32) -> ChannelReply
+    ensures { λ r. ⌜ r ≡ channelReply (tell value c) ⌝ }
+{
+    ChannelReply { channel: c, answer: crate::number(0, value) }
+}
+
+fn mode_write(c: Channel, v: u32) -> ChannelReply
+    ensures { λ r. ⌜ r ≡ channelReply (modeWrite v c) ⌝ }
+{
+    if c.running {
+        return refuse(c, 4);
+    }
+    let mut n = c;
+    n.mode = v;
+    n.second = false;
+    accept(n)
+}
+
+fn preload_write(c: Channel, selector: u8, v: u32) -> ChannelReply
+    ensures { λ r. ⌜ r ≡ channelReply (preloadWrite selector v c) ⌝ }
+{
+    let mut n = c;
+    if selector == 0 {
+        n.preloads[0] = v;
+    } else {
+        n.preloads[1] = v;
+    }
+    accept(n)
+}
+
+fn compare_write(c: Channel, selector: u8, v: u32) -> ChannelReply
+    ensures { λ r. ⌜ r ≡ channelReply (compareWrite selector v c) ⌝ }
+{
+    let mut n = c;
+    if selector == 0 {
+        n.compares[0] = v;
+    } else {
+        n.compares[1] = v;
+    }
+    accept(n)
+}
+
+fn route_write(c: Channel, v: u32) -> ChannelReply
+    ensures { λ r. ⌜ r ≡ channelReply (routeWrite v c) ⌝ }
+{
+    if c.running {
+        return refuse(c, 4);
+    }
+    let mut n = c;
+    n.route = v;
+    accept(n)
+}
+
+fn mask_write(c: Channel, v: u32) -> ChannelReply
+    ensures { λ r. ⌜ r ≡ channelReply (maskWrite v c) ⌝ }
+{
+    let mut n = c;
+    n.mask = v;
+    accept(n)
+}
+
+fn start(c: Channel) -> ChannelReply
+    ensures { λ r. ⌜ r ≡ channelReply (start c) ⌝ }
+{
+    accept(c.start())
+}
+
+fn halt(c: Channel) -> ChannelReply
+    ensures { λ r. ⌜ r ≡ channelReply (halt c) ⌝ }
+{
+    let mut n = c;
+    n.running = false;
+    accept(n)
+}
+
+fn snapshot(c: Channel, timestamp: u32) -> ChannelReply
+    ensures { λ r. ⌜ r ≡ channelReply (snapshot timestamp c) ⌝ }
+{
+    accept(c.capture(c.count, timestamp, 128))
+}
+
+fn soft_preload(c: Channel) -> ChannelReply
+    ensures { λ r. ⌜ r ≡ channelReply (softPreload c) ⌝ }
+{
+    accept(c.preload())
+}
+
+fn count_read(c: Channel) -> ChannelReply
+    ensures { λ r. ⌜ r ≡ channelReply (countRead c) ⌝ }
+{
+    tell(c, c.count)
+}
+
+fn snapshot_read(c: Channel) -> ChannelReply
+    ensures { λ r. ⌜ r ≡ channelReply (snapshotRead c) ⌝ }
+{
+    let lost = c.lost;
+    if 0 < lost {
+        let mut n = c;
+        n.lost = 0;
+        return ChannelReply { channel: n, answer: crate::number(6, lost) };
+    }
+    if c.held == 0 {
+        return refuse(c, 5);
+    }
+    let answer = Answer { result: 0, value: c.counts[0], timestamp: c.timestamps[0], reason: c.reasons[0] };
+    ChannelReply { channel: c.pop(), answer: answer }
+}
+
+fn status(c: Channel) -> ChannelReply
+    ensures { λ r. ⌜ r ≡ channelReply (channelStatus c) ⌝ }
+{
+    let bits = words::flag(c.running) + 2 * words::flag(c.armed) + 4 * words::flag(c.second);
+    tell(c, bits)
+}
+
+// The call of an event on its channel, at the board's timestamp.
+pub fn channel_call(timestamp: u32, e: Event, c: Channel) -> ChannelReply
+    ensures { λ r. ⌜ r ≡ channelReply (channelCall timestamp e c) ⌝ }
+{
+    let kind = e.kind;
+    match kind {
+        1 => mode_write(c, e.v),
+        2 => preload_write(c, e.selector, e.v),
+        3 => compare_write(c, e.selector, e.v),
+        4 => route_write(c, e.v),
+        5 => mask_write(c, e.v),
+        6 => start(c),
+        7 => halt(c),
+        8 => snapshot(c, timestamp),
+        9 => soft_preload(c),
+        10 => count_read(c),
+        11 => snapshot_read(c),
+        _ => status(c),
+    }
+}

@@ -1,0 +1,72 @@
+// Calls 13 to 17, on the pin's own record.
+ghost use mathlib.Core.Path.{_≡_};
+ghost use mathlib.Core.Bool.{cond};
+ghost use Rattle.words.specs.Bits.{flag};
+ghost use Rattle.calls.specs.Reply.{pinReply, accept, tell};
+ghost use Rattle.calls.specs.PinCalls.{withSource, withOwn, withSafeData, withSafeEnable, pinCall};
+
+use crate::Event;
+use crate::PinReply;
+use ports::Pin;
+
+fn accept(p: Pin) -> PinReply
+    ensures { λ r. ⌜ r ≡ pinReply (accept p) ⌝ }
+{
+    PinReply { pin: p, answer: crate::number(0, 0) }
+}
+
+fn source_write(p: Pin, v: u32) -> PinReply
+    ensures { λ r. ⌜ r ≡ pinReply (accept (withSource v p)) ⌝ }
+{
+    let mut n = p;
+    n.source = v;
+    accept(n)
+}
+
+fn data_write(p: Pin, v: bool) -> PinReply
+    ensures { λ r. ⌜ r ≡ pinReply (accept (withOwn v p)) ⌝ }
+{
+    let mut n = p;
+    n.own = v;
+    accept(n)
+}
+
+fn safe_data_write(p: Pin, writes: bool, v: bool) -> PinReply
+    ensures { λ r. ⌜ r ≡ pinReply (accept (cond writes (withSafeData v p) p)) ⌝ }
+{
+    let mut n = p;
+    if writes {
+        n.safedata = v;
+    }
+    accept(n)
+}
+
+fn safe_enable_write(p: Pin, writes: bool, v: bool) -> PinReply
+    ensures { λ r. ⌜ r ≡ pinReply (accept (cond writes (withSafeEnable v p) p)) ⌝ }
+{
+    let mut n = p;
+    if writes {
+        n.safeenable = v;
+    }
+    accept(n)
+}
+
+fn level_read(p: Pin) -> PinReply
+    ensures { λ r. ⌜ r ≡ pinReply (tell (flag (p .level)) p) ⌝ }
+{
+    PinReply { pin: p, answer: crate::number(0, words::flag(p.level)) }
+}
+
+// The call of an event on its pin; `writes` is SWE.
+pub fn pin_call(writes: bool, e: Event, p: Pin) -> PinReply
+    ensures { λ r. ⌜ r ≡ pinReply (pinCall writes e p) ⌝ }
+{
+    let kind = e.kind;
+    match kind {
+        13 => source_write(p, e.v),
+        14 => data_write(p, e.v == 1),
+        15 => safe_data_write(p, writes, e.v == 1),
+        16 => safe_enable_write(p, writes, e.v == 1),
+        _ => level_read(p),
+    }
+}

@@ -1,0 +1,63 @@
+// Calls 18 to 21, on the virtual output's own record.
+ghost use mathlib.Core.Path.{_≡_};
+ghost use mathlib.Core.Bool.{cond};
+ghost use Rattle.words.specs.Bits.{flag};
+ghost use Rattle.calls.specs.Reply.{virtualReply, accept, tell};
+ghost use Rattle.calls.specs.VirtualCalls.{withOwn, withSafeData, withSafeEnable, virtualCall};
+
+use crate::Event;
+use crate::VirtualReply;
+use ports::Virtual;
+
+fn accept(o: Virtual) -> VirtualReply
+    ensures { λ r. ⌜ r ≡ virtualReply (accept o) ⌝ }
+{
+    VirtualReply { output: o, answer: crate::number(0, 0) }
+}
+
+fn data_write(o: Virtual, v: bool) -> VirtualReply
+    ensures { λ r. ⌜ r ≡ virtualReply (accept (withOwn v o)) ⌝ }
+{
+    let mut n = o;
+    n.own = v;
+    accept(n)
+}
+
+fn safe_data_write(o: Virtual, writes: bool, v: bool) -> VirtualReply
+    ensures { λ r. ⌜ r ≡ virtualReply (accept (cond writes (withSafeData v o) o)) ⌝ }
+{
+    let mut n = o;
+    if writes {
+        n.safedata = v;
+    }
+    accept(n)
+}
+
+fn safe_enable_write(o: Virtual, writes: bool, v: bool) -> VirtualReply
+    ensures { λ r. ⌜ r ≡ virtualReply (accept (cond writes (withSafeEnable v o) o)) ⌝ }
+{
+    let mut n = o;
+    if writes {
+        n.safeenable = v;
+    }
+    accept(n)
+}
+
+fn data_read(o: Virtual) -> VirtualReply
+    ensures { λ r. ⌜ r ≡ virtualReply (tell (flag (o .own)) o) ⌝ }
+{
+    VirtualReply { output: o, answer: crate::number(0, words::flag(o.own)) }
+}
+
+// The call of an event on its virtual output; `writes` is SWE.
+pub fn virtual_call(writes: bool, e: Event, o: Virtual) -> VirtualReply
+    ensures { λ r. ⌜ r ≡ virtualReply (virtualCall writes e o) ⌝ }
+{
+    let kind = e.kind;
+    match kind {
+        18 => data_write(o, e.v == 1),
+        19 => safe_data_write(o, writes, e.v == 1),
+        20 => safe_enable_write(o, writes, e.v == 1),
+        _ => data_read(o),
+    }
+}

@@ -1,0 +1,4 @@
+pub mod Clock
+pub mod Watchdog
+pub mod Safety
+pub mod Whole

@@ -1,0 +1,205 @@
+// The board's own part: the clock with its ticks, the watchdog, and safemode with what sets it.
+ghost use mathlib.Core.Path.{_≡_};
+ghost use Prim.Native.Nat.{_+_, _<_};
+ghost use Rattle.words.specs.Bits.{word};
+ghost use Rattle.control.specs.Clock.{prescalerNext, risesAt, advanced, tick, ticks, repairedClock};
+ghost use Rattle.control.specs.Watchdog.{watched, kicked, switched, repairedWatchdog};
+ghost use Rattle.control.specs.Safety.{guarded, repairedSafety};
+ghost use Rattle.control.specs.Whole.{repairedCore, resetCore};
+
+// The steps of the prescaler's round, 10 seconds.
+const PRESCALE: u32 = 500_000_000;
+
+#[repr(C)]
+pub struct Clock {
+    pub prescaler: u32,
+    pub timestamp: u32,
+}
+
+#[repr(C)]
+pub struct Watchdog {
+    pub interval: u32,
+    pub rest: u32,
+    pub enabled: bool,
+    pub expired: bool,
+}
+
+// `writes` is SWE: safe writes are allowed.
+#[repr(C)]
+pub struct Safety {
+    pub control: u32,
+    pub writes: bool,
+    pub safemode: bool,
+}
+
+#[repr(C)]
+pub struct Core {
+    pub clock: Clock,
+    pub watchdog: Watchdog,
+    pub safety: Safety,
+}
+
+impl Clock {
+    // Part 1 of a step.
+    pub fn advance(self) -> Clock
+        ensures { λ r. ⌜ r ≡ advanced self ⌝ }
+    {
+        let p = next_prescaler(self.prescaler);
+        if p % 50 == 0 {
+            Clock { prescaler: p, timestamp: std::num::wrapping_add_u32(self.timestamp, 1) }
+        } else {
+            Clock { prescaler: p, timestamp: self.timestamp }
+        }
+    }
+
+    // A clock handed in.
+    pub fn repair(mut self) -> Clock
+        ensures { λ r. ⌜ r ≡ repairedClock self ⌝ }
+    {
+        if PRESCALE <= self.prescaler {
+            self.prescaler = 0;
+        }
+        self
+    }
+}
+
+// The prescaler of the next step.
+fn next_prescaler(p: u32) -> u32
+    ensures { λ r. ⌜ r ≡ prescalerNext p ⌝ }
+{
+    if p < PRESCALE - 1 { p + 1 } else { (p % PRESCALE + 1) % PRESCALE }
+}
+
+// The timestamp rises in a step with this prescaler.
+pub fn rises_at(p: u32) -> bool
+    ensures { λ r. ⌜ r ≡ risesAt p ⌝ }
+{
+    p % 50 == 0
+}
+
+// The eight ticks: bit x is the tick of XS 8 + x.
+pub fn ticks(p: u32) -> u64
+    ensures { λ r. ⌜ r ≡ ticks p ⌝ }
+{
+    if p % 50 != 0 {
+        return 0;
+    }
+    let slow = slow_ticks(p);
+    let fast = fast_ticks(p);
+    (slow + 16 * fast) as u64
+}
+
+impl Watchdog {
+    // Part 3 of a step.
+    pub fn watch(mut self) -> Watchdog
+        ensures { λ r. ⌜ r ≡ watched self ⌝ }
+    {
+        if self.enabled {
+            if 0 < self.rest {
+                self.expired = self.expired | (self.rest == 1);
+                self.rest = self.rest - 1;
+            }
+        }
+        self
+    }
+
+    // The rest to the interval, and expiry ended.
+    pub fn kick(mut self) -> Watchdog
+        ensures { λ r. ⌜ r ≡ kicked self ⌝ }
+    {
+        self.rest = self.interval;
+        self.expired = false;
+        self
+    }
+
+    // Enabled or disabled.
+    pub fn switch(mut self, on: bool) -> Watchdog
+        ensures { λ r. ⌜ r ≡ switched on self ⌝ }
+    {
+        if on {
+            if self.enabled {
+                return self;
+            }
+            self.enabled = true;
+            return self.kick();
+        }
+        self.enabled = false;
+        self
+    }
+
+    // A watchdog handed in.
+    pub fn repair(mut self) -> Watchdog
+        ensures { λ r. ⌜ r ≡ repairedWatchdog self ⌝ }
+    {
+        if self.interval == 0 {
+            self.interval = 50_000_000;
+        }
+        self
+    }
+}
+
+impl Safety {
+    // Part 4 of a step.
+    pub fn guard(mut self, expired: bool, pin47: bool) -> Safety
+        ensures { λ r. ⌜ r ≡ guarded expired pin47 self ⌝ }
+    {
+        let c = self.control;
+        self.safemode = self.safemode | ((c / 4 % 2 == 1) & expired) | ((c % 2 == 1) & (pin47 == (c / 2 % 2 == 1)));
+        self
+    }
+
+    // Safety handed in.
+    pub fn repair(mut self) -> Safety
+        ensures { λ r. ⌜ r ≡ repairedSafety self ⌝ }
+    {
+        if 8 <= self.control {
+            self.control = 0;
+        }
+        self
+    }
+}
+
+impl Core {
+    // The board's own part handed in.
+    pub fn repair(self) -> Core
+        ensures { λ r. ⌜ r ≡ repairedCore self ⌝ }
+    {
+        let clock = self.clock;
+        let watchdog = self.watchdog;
+        let safety = self.safety;
+        Core { clock: clock.repair(), watchdog: watchdog.repair(), safety: safety.repair() }
+    }
+}
+
+// The board's own part at reset.
+pub fn reset() -> Core
+    ensures { λ r. ⌜ r ≡ resetCore ⌝ }
+{
+    Core {
+        clock: Clock { prescaler: 0, timestamp: 0 },
+        watchdog: Watchdog { interval: 50_000_000, rest: 0, enabled: false, expired: false },
+        safety: Safety { control: 0, writes: false, safemode: false },
+    }
+}
+
+// The four slow ticks, of 10 s to 10 ms.
+fn slow_ticks(p: u32) -> u32
+    ensures { λ r. ⌜ r ≡ word 4 (tick p) ⌝ }
+    ensures { λ r. ⌜ r < 16 ⌝ }
+{
+    words::flag(p % 500_000_000 == 0)
+        + 2 * words::flag(p % 50_000_000 == 0)
+        + 4 * words::flag(p % 5_000_000 == 0)
+        + 8 * words::flag(p % 500_000 == 0)
+}
+
+// The four fast ticks, of 1 ms to 1 us.
+fn fast_ticks(p: u32) -> u32
+    ensures { λ r. ⌜ r ≡ word 4 (λ x. tick p (4 + x)) ⌝ }
+    ensures { λ r. ⌜ r < 16 ⌝ }
+{
+    words::flag(p % 50_000 == 0)
+        + 2 * words::flag(p % 5_000 == 0)
+        + 4 * words::flag(p % 500 == 0)
+        + 8 * words::flag(p % 50 == 0)
+}

@@ -1,0 +1,106 @@
+-- The 48 pins: bit p of each word is pin p's. Document 01, "The step", parts 2 and 6, and the pins of a board handed in.
+-- Assumes nothing.
+use mathlib.Core.Bool.{Bool, true, cond, _&&_, _||_}
+use Prim.Native.Nat.{ℕ, _+_, _-_, _*_}
+use lib.Dec.{eqb, ltb}
+use Rattle.words.specs.Bits.{bit, flag, word}
+use Rattle.ports.specs.declared.Pin.{Pin}
+use Rattle.ports.specs.declared.Pins.{Pins}
+
+-- the source number whose three bits stand in the three planes
+abbrev pub number : Bool → Bool → Bool → ℕ
+number a b c = flag a + 2 * flag b + 4 * flag c
+
+-- pin p's own record
+unfoldable pub pinAt : Pins → ℕ → Pin
+pinAt x p =
+    record {
+      source = number (bit (x .source0) p) (bit (x .source1) p) (bit (x .source2) p);
+      own = bit (x .own) p;
+      safedata = bit (x .safedata) p;
+      safeenable = bit (x .safeenable) p;
+      level = bit (x .level) p;
+      driven = bit (x .driven) p;
+    }
+
+-- a word with bit p at t
+abbrev pub putBit : ℕ → Bool → ℕ → ℕ
+putBit p t w = word 48 (λ i. cond (eqb i p) t (bit w i))
+
+-- the pins with the record q in the place of pin p's
+unfoldable pub putPin : ℕ → Pin → Pins → Pins
+putPin p q x =
+    record {
+      level = putBit p (q .level) (x .level);
+      driven = putBit p (q .driven) (x .driven);
+      own = putBit p (q .own) (x .own);
+      safedata = putBit p (q .safedata) (x .safedata);
+      safeenable = putBit p (q .safeenable) (x .safeenable);
+      source0 = putBit p (bit (q .source) 0) (x .source0);
+      source1 = putBit p (bit (q .source) 1) (x .source1);
+      source2 = putBit p (bit (q .source) 2) (x .source2);
+    }
+
+abbrev pub withLevel : ℕ → Pins → Pins
+withLevel w x =
+    record {
+      level = w;
+      driven = x .driven;
+      own = x .own;
+      safedata = x .safedata;
+      safeenable = x .safeenable;
+      source0 = x .source0;
+      source1 = x .source1;
+      source2 = x .source2;
+    }
+
+abbrev pub withDriven : ℕ → Pins → Pins
+withDriven w x =
+    record {
+      level = x .level;
+      driven = w;
+      own = x .own;
+      safedata = x .safedata;
+      safeenable = x .safeenable;
+      source0 = x .source0;
+      source1 = x .source1;
+      source2 = x .source2;
+    }
+
+-- part 2: a pin's level is 1 if its external level, bit p of w, is 1 or its driven value of the last step is 1
+unfoldable pub pinLevel : Pins → ℕ → ℕ → Bool
+pinLevel x w p = bit w p || pinAt x p .driven
+
+-- the pins with the levels that `level` gives, pin by pin
+unfoldable pub sensedWith : (Pins → ℕ → ℕ → Bool) → ℕ → Pins → Pins
+sensedWith level w x = withLevel (word 48 (level x w)) x
+
+-- what a source number gives: 1 to 6 the ExtOut of channel 0 to 5, which is a bit of `outs`; else the own register
+abbrev pub sourced : ℕ → Bool → ℕ → Bool
+sourced s own outs = cond (ltb 0 s && ltb s 7) (bit outs (s - 1)) own
+
+-- part 6: a pin is driven with its safe data if safemode and its safe enable are 1, else with its source
+abbrev pub drivenBy : ℕ → Bool → Pin → Bool
+drivenBy outs safemode q = cond (safemode && q .safeenable) (q .safedata) (sourced (q .source) (q .own) outs)
+
+unfoldable pub driven : ℕ → Bool → Pins → Pins
+driven outs safemode x = withDriven (word 48 (λ p. drivenBy outs safemode (pinAt x p))) x
+
+-- the pins of a board handed in: bits past pin 47 are no pin's, and a source number above 6 counts as 0
+unfoldable pub repairedPins : Pins → Pins
+repairedPins x =
+    record {
+      level = word 48 (bit (x .level));
+      driven = word 48 (bit (x .driven));
+      own = word 48 (bit (x .own));
+      safedata = word 48 (bit (x .safedata));
+      safeenable = word 48 (bit (x .safeenable));
+      source0 = word 48 (λ p. bit (x .source0) p && ltb (pinAt x p .source) 7);
+      source1 = word 48 (λ p. bit (x .source1) p && ltb (pinAt x p .source) 7);
+      source2 = word 48 (λ p. bit (x .source2) p && ltb (pinAt x p .source) 7);
+    }
+
+-- at reset all is 0, but every safe enable 1
+unfoldable pub resetPins : Pins
+resetPins =
+    record { level = 0; driven = 0; own = 0; safedata = 0; safeenable = word 48 (λ p. true); source0 = 0; source1 = 0; source2 = 0 }

@@ -1,0 +1,253 @@
+// The pins and the virtual outputs: their records, bit by bit in words, and what a step makes of
+// them. A function that takes a pin's or an output's number asks that there is one.
+ghost use mathlib.Core.Path.{_≡_};
+ghost use Prim.Native.Nat.{_<_};
+ghost use mathlib.Core.Bool.{cond, _&&_};
+ghost use lib.Dec.{ltb};
+ghost use Rattle.words.specs.Bits.{bit, word};
+ghost use Rattle.ports.specs.Pins.{number, pinAt, putPin, pinLevel, sensedWith, sourced, driven, repairedPins, resetPins};
+ghost use Rattle.ports.specs.Virtuals.{virtualAt, putVirtual, putVirtualBit, virtualLevels, repairedVirtuals, resetVirtuals, routed};
+
+// The number of pins, and of virtual outputs.
+pub const PINS: u64 = 48;
+pub const VIRTUALS: u64 = 6;
+
+// One pin.
+#[repr(C)]
+pub struct Pin {
+    pub source: u32,
+    pub own: bool,
+    pub safedata: bool,
+    pub safeenable: bool,
+    pub level: bool,
+    pub driven: bool,
+}
+
+// All pins: bit p of each word is pin p's. The three source words hold the three bits of each
+// pin's source number.
+#[repr(C)]
+pub struct Pins {
+    pub level: u64,
+    pub driven: u64,
+    pub own: u64,
+    pub safedata: u64,
+    pub safeenable: u64,
+    pub source0: u64,
+    pub source1: u64,
+    pub source2: u64,
+}
+
+// One virtual output.
+#[repr(C)]
+pub struct Virtual {
+    pub own: bool,
+    pub safedata: bool,
+    pub safeenable: bool,
+}
+
+// All virtual outputs: bit o of each word is output o's.
+#[repr(C)]
+pub struct Virtuals {
+    pub own: u64,
+    pub safedata: u64,
+    pub safeenable: u64,
+}
+
+// A source number from its three bits.
+fn number(a: bool, b: bool, c: bool) -> u32
+    ensures { λ r. ⌜ r ≡ number a b c ⌝ }
+{
+    words::flag(a) + 2 * words::flag(b) + 4 * words::flag(c)
+}
+
+// What the sources give, pin by pin.
+fn sources(own: u64, s0: u64, s1: u64, s2: u64, outs: u64) -> u64
+    ensures { λ r. ⌜ r ≡ word 48 (λ p. sourced (number (bit s0 p) (bit s1 p) (bit s2 p)) (bit own p) outs) ⌝ }
+{
+    let low = words::select(
+        s1,
+        words::select(s0, words::all(words::bit(outs, 2)), words::all(words::bit(outs, 1))),
+        words::select(s0, words::all(words::bit(outs, 0)), own),
+    );
+    let high = words::select(
+        s1,
+        words::select(s0, own, words::all(words::bit(outs, 5))),
+        words::select(s0, words::all(words::bit(outs, 4)), words::all(words::bit(outs, 3))),
+    );
+    words::select(s2, high, low)
+}
+
+// `safedata` where safemode and the safe enable are 1, else `base`.
+fn guarded(base: u64, safemode: bool, safedata: u64, safeenable: u64) -> u64
+    ensures { λ r. ⌜ r ≡ word 48 (λ p. cond (safemode && bit safeenable p) (bit safedata p) (bit base p)) ⌝ }
+{
+    words::select(words::both(words::all(safemode), safeenable), safedata, base)
+}
+
+// A plane of the source numbers without the pins whose number is 7.
+fn mended(s: u64, s0: u64, s1: u64, s2: u64) -> u64
+    ensures { λ r. ⌜ r ≡ word 48 (λ p. bit s p && ltb (number (bit s0 p) (bit s1 p) (bit s2 p)) 7) ⌝ }
+{
+    words::without(s, words::both(words::both(s0, s1), s2))
+}
+
+impl Pins {
+    // Pin p's own record.
+    pub fn at(self, p: u64) -> Pin
+        requires { ⌜ p < 48 ⌝ }
+        ensures { λ r. ⌜ r ≡ pinAt self p ⌝ }
+    {
+        Pin {
+            source: number(words::bit(self.source0, p), words::bit(self.source1, p), words::bit(self.source2, p)),
+            own: words::bit(self.own, p),
+            safedata: words::bit(self.safedata, p),
+            safeenable: words::bit(self.safeenable, p),
+            level: words::bit(self.level, p),
+            driven: words::bit(self.driven, p),
+        }
+    }
+
+    // The pins with the record q in the place of pin p's.
+    pub fn put(self, p: u64, q: Pin) -> Pins
+        requires { ⌜ p < 48 ⌝ }
+        ensures { λ r. ⌜ r ≡ putPin p q self ⌝ }
+    {
+        let s = q.source as u64;
+        Pins {
+            level: words::put(self.level, p, q.level),
+            driven: words::put(self.driven, p, q.driven),
+            own: words::put(self.own, p, q.own),
+            safedata: words::put(self.safedata, p, q.safedata),
+            safeenable: words::put(self.safeenable, p, q.safeenable),
+            source0: words::put(self.source0, p, words::bit(s, 0)),
+            source1: words::put(self.source1, p, words::bit(s, 1)),
+            source2: words::put(self.source2, p, words::bit(s, 2)),
+        }
+    }
+
+    // Part 2 of a step: the levels, from the external levels and what the pins were driven with.
+    pub fn sense(mut self, w: u64) -> Pins
+        ensures { λ r. ⌜ r ≡ sensedWith pinLevel w self ⌝ }
+    {
+        self.level = words::either(w, self.driven);
+        self
+    }
+
+    // Part 6 of a step: what the pins are driven with; bit c of `outs` is ExtOut of channel c.
+    pub fn drive(mut self, outs: u64, safemode: bool) -> Pins
+        ensures { λ r. ⌜ r ≡ driven outs safemode self ⌝ }
+    {
+        let base = sources(self.own, self.source0, self.source1, self.source2, outs);
+        self.driven = guarded(base, safemode, self.safedata, self.safeenable);
+        self
+    }
+
+    // Pins handed in, with what is outside its range as at reset.
+    pub fn repair(self) -> Pins
+        ensures { λ r. ⌜ r ≡ repairedPins self ⌝ }
+    {
+        Pins {
+            level: words::cut(self.level),
+            driven: words::cut(self.driven),
+            own: words::cut(self.own),
+            safedata: words::cut(self.safedata),
+            safeenable: words::cut(self.safeenable),
+            source0: mended(self.source0, self.source0, self.source1, self.source2),
+            source1: mended(self.source1, self.source0, self.source1, self.source2),
+            source2: mended(self.source2, self.source0, self.source1, self.source2),
+        }
+    }
+}
+
+// All pins at reset.
+pub fn reset_pins() -> Pins
+    ensures { λ r. ⌜ r ≡ resetPins ⌝ }
+{
+    Pins {
+        level: 0,
+        driven: 0,
+        own: 0,
+        safedata: 0,
+        safeenable: words::all(true),
+        source0: 0,
+        source1: 0,
+        source2: 0,
+    }
+}
+
+// A word of the outputs with bit o at t.
+fn put_virtual_bit(w: u64, o: u64, t: bool) -> u64
+    requires { ⌜ o < 6 ⌝ }
+    ensures { λ r. ⌜ r ≡ putVirtualBit o t w ⌝ }
+{
+    words::put(w, o, t) % 64
+}
+
+// A word of the outputs without the bits above bit 5.
+fn cut_virtual(w: u64) -> u64
+    ensures { λ r. ⌜ r ≡ word 6 (bit w) ⌝ }
+{
+    w % 64
+}
+
+impl Virtuals {
+    // Output o's own record.
+    pub fn at(self, o: u64) -> Virtual
+        requires { ⌜ o < 6 ⌝ }
+        ensures { λ r. ⌜ r ≡ virtualAt self o ⌝ }
+    {
+        Virtual {
+            own: words::bit(self.own, o),
+            safedata: words::bit(self.safedata, o),
+            safeenable: words::bit(self.safeenable, o),
+        }
+    }
+
+    // The outputs with the record q in the place of output o's.
+    pub fn put(self, o: u64, q: Virtual) -> Virtuals
+        requires { ⌜ o < 6 ⌝ }
+        ensures { λ r. ⌜ r ≡ putVirtual o q self ⌝ }
+    {
+        Virtuals {
+            own: put_virtual_bit(self.own, o, q.own),
+            safedata: put_virtual_bit(self.safedata, o, q.safedata),
+            safeenable: put_virtual_bit(self.safeenable, o, q.safeenable),
+        }
+    }
+
+    // The levels by a safemode: bit o is output o's.
+    pub fn levels(self, safemode: bool) -> u64
+        ensures { λ r. ⌜ r ≡ virtualLevels safemode self ⌝ }
+    {
+        guarded(self.own, safemode, self.safedata, self.safeenable) % 64
+    }
+
+    // Outputs handed in, without the bits that are no output's.
+    pub fn repair(self) -> Virtuals
+        ensures { λ r. ⌜ r ≡ repairedVirtuals self ⌝ }
+    {
+        Virtuals {
+            own: cut_virtual(self.own),
+            safedata: cut_virtual(self.safedata),
+            safeenable: cut_virtual(self.safeenable),
+        }
+    }
+}
+
+// All virtual outputs at reset.
+pub fn reset_virtuals() -> Virtuals
+    ensures { λ r. ⌜ r ≡ resetVirtuals ⌝ }
+{
+    Virtuals { own: 0, safedata: 0, safeenable: 63 }
+}
+
+// The level that an ExtIn route names.
+pub fn route_level(levels: u64, virtuals: u64, r: u64) -> bool
+    ensures { λ x. ⌜ x ≡ routed levels virtuals r ⌝ }
+{
+    if r < PINS {
+        words::bit(levels, r)
+    } else {
+        if r < 54 { words::bit(virtuals, r - PINS) } else { false }
+    }
+}

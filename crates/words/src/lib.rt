@@ -1,0 +1,82 @@
+// Bits of a number, and words of 48 bits, a bit for each pin of the board. The operators on bits
+// stand here and nowhere else: each function says which bits its result has, and the other crates
+// go by that. A word function ends in a remainder by 2^48, so it takes every u64.
+ghost use mathlib.Core.Path.{_≡_};
+ghost use Prim.Native.Nat.{_+_, _<_, _%_, _^_};
+ghost use mathlib.Core.Bool.{not, cond, _||_, _&&_};
+ghost use lib.Dec.{eqb};
+ghost use Rattle.words.specs.Bits.{bit, flag, word};
+
+// 1 for true, 0 for false.
+pub fn flag(b: bool) -> u32
+    ensures { λ r. ⌜ r ≡ flag b ⌝ }
+    ensures { λ r. ⌜ r < 2 ⌝ }
+{
+    if b { 1 } else { 0 }
+}
+
+// Bit `i` of `w`.
+pub fn bit(w: u64, i: u64) -> bool
+    requires { ⌜ i < 64 ⌝ }
+    ensures { λ r. ⌜ r ≡ bit w i ⌝ }
+{
+    (w >> i) % 2 == 1
+}
+
+// The bits that `a` or `b` has.
+pub fn either(a: u64, b: u64) -> u64
+    ensures { λ r. ⌜ r ≡ word 48 (λ p. bit a p || bit b p) ⌝ }
+{
+    (a | b) % 281474976710656
+}
+
+// The bits that both have.
+pub fn both(a: u64, b: u64) -> u64
+    ensures { λ r. ⌜ r ≡ word 48 (λ p. bit a p && bit b p) ⌝ }
+{
+    (a & b) % 281474976710656
+}
+
+// The bits of `a` that `b` has not.
+pub fn without(a: u64, b: u64) -> u64
+    ensures { λ r. ⌜ r ≡ word 48 (λ p. bit a p && not (bit b p)) ⌝ }
+{
+    (a ^ (a & b)) % 281474976710656
+}
+
+// `a` where `m` is 1, else `b`.
+pub fn select(m: u64, a: u64, b: u64) -> u64
+    ensures { λ r. ⌜ r ≡ word 48 (λ p. cond (bit m p) (bit a p) (bit b p)) ⌝ }
+{
+    (b ^ (m & (a ^ b))) % 281474976710656
+}
+
+// `v` at every bit.
+pub fn all(v: bool) -> u64
+    ensures { λ r. ⌜ r ≡ word 48 (λ p. v) ⌝ }
+{
+    if v { 281474976710655 } else { 0 }
+}
+
+// Bit `p` alone.
+pub fn only(p: u64) -> u64
+    requires { ⌜ p < 48 ⌝ }
+    ensures { λ r. ⌜ r ≡ word 48 (λ i. eqb i p) ⌝ }
+{
+    (1 << p) % 281474976710656
+}
+
+// `w` with bit `p` at `v`.
+pub fn put(w: u64, p: u64, v: bool) -> u64
+    requires { ⌜ p < 48 ⌝ }
+    ensures { λ r. ⌜ r ≡ word 48 (λ i. cond (eqb i p) v (bit w i)) ⌝ }
+{
+    select(only(p), all(v), w)
+}
+
+// `w` without the bits above bit 47.
+pub fn cut(w: u64) -> u64
+    ensures { λ r. ⌜ r ≡ word 48 (bit w) ⌝ }
+{
+    w % 281474976710656
+}
