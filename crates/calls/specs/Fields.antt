@@ -9,11 +9,10 @@ use Rattle.counter.specs.Mode.{goodMode}
 use Rattle.calls.specs.declared.Event.{Event}
 
 -- V is below this, kind by kind: 2^32 where every V is taken, 1 where V is unused
-unfoldable pub limit : ℕ → ℕ
-limit k =
-    getD
+unfoldable pub limits : List ℕ
+limits =
     -- 0 step, 1 mode write, 2 preload write, 3 compare write, 4 route, 5 mask
-    (2 ^ 18 ∷ 2 ^ 28 ∷ 2 ^ 32 ∷ 2 ^ 32 ∷ 55 ∷ 512
+    2 ^ 18 ∷ 2 ^ 28 ∷ 2 ^ 32 ∷ 2 ^ 32 ∷ 55 ∷ 512
     -- 6 start, 7 halt, 8 soft snapshot, 9 soft preload, 10 count read, 11 snapshot read, 12 status
     ∷ 1 ∷ 1 ∷ 1 ∷ 1 ∷ 1 ∷ 1 ∷ 1
     -- 13 source, 14 data, 15 safe data, 16 safe enable, 17 read
@@ -22,7 +21,10 @@ limit k =
     ∷ 2 ∷ 2 ∷ 2 ∷ 1
     -- 22 control, 23 SWE, 24 clear safemode, 25 interval, 26 watchdog enable, 27 kick, 28 timestamp, 29 status
     ∷ 8 ∷ 2 ∷ 1 ∷ 2 ^ 32 ∷ 2 ∷ 1 ∷ 1 ∷ 1
-    ∷ []) k 0
+    ∷ []
+
+unfoldable pub limit : ℕ → ℕ
+limit k = getD limits k 0
 
 -- every field is as its kind wants it: the spare 0; the selector 0, or 0 or 1 with calls 2 and 3; W 0, or 48 bits in a step; V below its
 -- limit, a good mode word with call 1, not 0 with call 25; the member of a step 0

@@ -44,9 +44,9 @@ fn preload_write(c: Channel, selector: u8, v: u32) -> ChannelReply
     let mut n = c;
     if selector == 0 {
         n.preloads[0] = v;
-    } else {
-        n.preloads[1] = v;
+        return accept(n);
     }
+    n.preloads[1] = v;
     accept(n)
 }
 
@@ -56,9 +56,9 @@ fn compare_write(c: Channel, selector: u8, v: u32) -> ChannelReply
     let mut n = c;
     if selector == 0 {
         n.compares[0] = v;
-    } else {
-        n.compares[1] = v;
+        return accept(n);
     }
+    n.compares[1] = v;
     accept(n)
 }
 

@@ -34,21 +34,23 @@ fn data_write(p: Pin, v: bool) -> PinReply
 fn safe_data_write(p: Pin, writes: bool, v: bool) -> PinReply
     ensures { λ r. ⌜ r ≡ pinReply (accept (cond writes (withSafeData v p) p)) ⌝ }
 {
-    let mut n = p;
     if writes {
+        let mut n = p;
         n.safedata = v;
+        return accept(n);
     }
-    accept(n)
+    accept(p)
 }
 
 fn safe_enable_write(p: Pin, writes: bool, v: bool) -> PinReply
     ensures { λ r. ⌜ r ≡ pinReply (accept (cond writes (withSafeEnable v p) p)) ⌝ }
 {
-    let mut n = p;
     if writes {
+        let mut n = p;
         n.safeenable = v;
+        return accept(n);
     }
-    accept(n)
+    accept(p)
 }
 
 fn level_read(p: Pin) -> PinReply

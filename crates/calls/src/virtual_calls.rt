@@ -26,21 +26,23 @@ fn data_write(o: Virtual, v: bool) -> VirtualReply
 fn safe_data_write(o: Virtual, writes: bool, v: bool) -> VirtualReply
     ensures { λ r. ⌜ r ≡ virtualReply (accept (cond writes (withSafeData v o) o)) ⌝ }
 {
-    let mut n = o;
     if writes {
+        let mut n = o;
         n.safedata = v;
+        return accept(n);
     }
-    accept(n)
+    accept(o)
 }
 
 fn safe_enable_write(o: Virtual, writes: bool, v: bool) -> VirtualReply
     ensures { λ r. ⌜ r ≡ virtualReply (accept (cond writes (withSafeEnable v o) o)) ⌝ }
 {
-    let mut n = o;
     if writes {
+        let mut n = o;
         n.safeenable = v;
+        return accept(n);
     }
-    accept(n)
+    accept(o)
 }
 
 fn data_read(o: Virtual) -> VirtualReply

@@ -1,3 +1,5 @@
+use borrow.Author.Tests.{ne-eqb}
+use Rattle.calls.specs.BoardCalls.{boardCall}
 use borrow.Author.Needs.{needs}
 use Rattle.calls.proofs.board_calls.board_call.Statement.{statement}
 use Rattle.calls.proofs.board_calls.board_call.Tie as tie
@@ -46,35 +48,61 @@ status-requires c κs = search needs
 
 -- src/board_calls.rt:110:1
 returns : tie.Need-returns
-returns c = ?
+unfolding boardCall
+returns c =
+    let c₁ = c .before in
+    rw (c .control-write .ensures, c₁ .match .keys1)
 
 -- src/board_calls.rt:110:1
 returns-2 : tie.Need-returns-2
-returns-2 c = ?
+unfolding boardCall
+returns-2 c =
+    let c₁ = c .before in
+    let c₂ = c₁ .before in
+    rw (c .writes-write .ensures, c₂ .match .keys2)
 
 -- src/board_calls.rt:110:1
 returns-3 : tie.Need-returns-3
-returns-3 c = ?
+unfolding boardCall
+returns-3 c =
+    let c₁ = c .before in
+    rw (c .safemode-clear .ensures, c₁ .match .keys3)
 
 -- src/board_calls.rt:110:1
 returns-4 : tie.Need-returns-4
-returns-4 c = ?
+unfolding boardCall
+returns-4 c =
+    let c₁ = c .before in
+    rw (c .interval-write .ensures, c₁ .match .keys4)
 
 -- src/board_calls.rt:110:1
 returns-5 : tie.Need-returns-5
-returns-5 c = ?
+unfolding boardCall
+returns-5 c =
+    let c₁ = c .before in
+    let c₂ = c₁ .before in
+    rw (c .enable-write .ensures, c₂ .match .keys5)
 
 -- src/board_calls.rt:110:1
 returns-6 : tie.Need-returns-6
-returns-6 c = ?
+unfolding boardCall
+returns-6 c =
+    let c₁ = c .before in
+    rw (c .watchdog-kick .ensures, c₁ .match .keys6)
 
 -- src/board_calls.rt:110:1
 returns-7 : tie.Need-returns-7
-returns-7 c = ?
+unfolding boardCall
+returns-7 c =
+    let c₁ = c .before in
+    rw (c .timestamp-read .ensures, c₁ .match .keys7)
 
 -- src/board_calls.rt:110:1
 returns-8 : tie.Need-returns-8
-returns-8 c = ?
+unfolding boardCall
+returns-8 c =
+    let c₁ = c .before in
+    let r = c₁ .match .rest in simp (c .status .ensures, ne-eqb _ _ (r .1), ne-eqb _ _ (r .0 .1), ne-eqb _ _ (r .0 .0 .1), ne-eqb _ _ (r .0 .0 .0 .1), ne-eqb _ _ (r .0 .0 .0 .0 .1), ne-eqb _ _ (r .0 .0 .0 .0 .0 .1), ne-eqb _ _ (r .0 .0 .0 .0 .0 .0 .1))
 
 pub board-call-spec : {M : Type 1} → statement M
 board-call-spec =

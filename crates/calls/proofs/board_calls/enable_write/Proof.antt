@@ -16,7 +16,9 @@ with-watchdog-requires c κs = search needs
 
 -- src/board_calls.rt:79:1
 returns : tie.Need-returns
-returns c = ?
+returns c =
+    let c₁ = c .before in
+    rw (c .with-watchdog .ensures, c₁ .switch .ensures)
 
 pub enable-write-spec : {M : Type 1} → statement M
 enable-write-spec = tie.close (tie.spec switch-requires with-watchdog-requires returns)

@@ -52,7 +52,12 @@ tell-requires c κs = search needs
 
 -- src/board_calls.rt:99:1
 returns : tie.Need-returns
-returns c = ?
+returns c =
+    let c₁ = c .before in
+    let c₂ = c₁ .before in
+    let c₃ = c₂ .before in
+    let c₄ = c₃ .before in
+    rw (c .tell .ensures, c₁ .flag4 .ensures .0, c₂ .flag3 .ensures .0, c₃ .flag2 .ensures .0, c₄ .flag .ensures .0)
 
 pub status-spec : {M : Type 1} → statement M
 status-spec =

@@ -16,7 +16,9 @@ with-watchdog-requires c κs = search needs
 
 -- src/board_calls.rt:86:1
 returns : tie.Need-returns
-returns c = ?
+returns c =
+    let c₁ = c .before in
+    rw (c .with-watchdog .ensures, c₁ .kick .ensures)
 
 pub watchdog-kick-spec : {M : Type 1} → statement M
 watchdog-kick-spec = tie.close (tie.spec kick-requires with-watchdog-requires returns)

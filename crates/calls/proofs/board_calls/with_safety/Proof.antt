@@ -11,7 +11,7 @@ number-requires c κs = search needs
 
 -- src/board_calls.rt:36:1
 returns : tie.Need-returns
-returns c = ?
+returns c = rw (c .number .ensures)
 
 pub with-safety-spec : {M : Type 1} → statement M
 with-safety-spec = tie.close (tie.spec number-requires returns)

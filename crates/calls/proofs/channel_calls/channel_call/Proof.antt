@@ -1,3 +1,5 @@
+use borrow.Author.Tests.{ne-eqb}
+use Rattle.calls.specs.ChannelCalls.{channelCall}
 use borrow.Author.Needs.{needs}
 use Rattle.calls.proofs.channel_calls.channel_call.Statement.{statement}
 use Rattle.calls.proofs.channel_calls.channel_call.Tie as tie
@@ -66,51 +68,87 @@ status-requires c κs = search needs
 
 -- src/channel_calls.rt:140:1
 returns : tie.Need-returns
-returns c = ?
+unfolding channelCall
+returns c =
+    let c₁ = c .before in
+    rw (c .mode-write .ensures, c₁ .match .keys1)
 
 -- src/channel_calls.rt:140:1
 returns-2 : tie.Need-returns-2
-returns-2 c = ?
+unfolding channelCall
+returns-2 c =
+    let c₁ = c .before in
+    rw (c .preload-write .ensures, c₁ .match .keys2)
 
 -- src/channel_calls.rt:140:1
 returns-3 : tie.Need-returns-3
-returns-3 c = ?
+unfolding channelCall
+returns-3 c =
+    let c₁ = c .before in
+    rw (c .compare-write .ensures, c₁ .match .keys3)
 
 -- src/channel_calls.rt:140:1
 returns-4 : tie.Need-returns-4
-returns-4 c = ?
+unfolding channelCall
+returns-4 c =
+    let c₁ = c .before in
+    rw (c .route-write .ensures, c₁ .match .keys4)
 
 -- src/channel_calls.rt:140:1
 returns-5 : tie.Need-returns-5
-returns-5 c = ?
+unfolding channelCall
+returns-5 c =
+    let c₁ = c .before in
+    rw (c .mask-write .ensures, c₁ .match .keys5)
 
 -- src/channel_calls.rt:140:1
 returns-6 : tie.Need-returns-6
-returns-6 c = ?
+unfolding channelCall
+returns-6 c =
+    let c₁ = c .before in
+    rw (c .start .ensures, c₁ .match .keys6)
 
 -- src/channel_calls.rt:140:1
 returns-7 : tie.Need-returns-7
-returns-7 c = ?
+unfolding channelCall
+returns-7 c =
+    let c₁ = c .before in
+    rw (c .halt .ensures, c₁ .match .keys7)
 
 -- src/channel_calls.rt:140:1
 returns-8 : tie.Need-returns-8
-returns-8 c = ?
+unfolding channelCall
+returns-8 c =
+    let c₁ = c .before in
+    rw (c .snapshot .ensures, c₁ .match .keys8)
 
 -- src/channel_calls.rt:140:1
 returns-9 : tie.Need-returns-9
-returns-9 c = ?
+unfolding channelCall
+returns-9 c =
+    let c₁ = c .before in
+    rw (c .soft-preload .ensures, c₁ .match .keys9)
 
 -- src/channel_calls.rt:140:1
 returns-10 : tie.Need-returns-10
-returns-10 c = ?
+unfolding channelCall
+returns-10 c =
+    let c₁ = c .before in
+    rw (c .count-read .ensures, c₁ .match .keys10)
 
 -- src/channel_calls.rt:140:1
 returns-11 : tie.Need-returns-11
-returns-11 c = ?
+unfolding channelCall
+returns-11 c =
+    let c₁ = c .before in
+    rw (c .snapshot-read .ensures, c₁ .match .keys11)
 
 -- src/channel_calls.rt:140:1
 returns-12 : tie.Need-returns-12
-returns-12 c = ?
+unfolding channelCall
+returns-12 c =
+    let c₁ = c .before in
+    let r = c₁ .match .rest in simp (c .status .ensures, ne-eqb _ _ (r .1), ne-eqb _ _ (r .0 .1), ne-eqb _ _ (r .0 .0 .1), ne-eqb _ _ (r .0 .0 .0 .1), ne-eqb _ _ (r .0 .0 .0 .0 .1), ne-eqb _ _ (r .0 .0 .0 .0 .0 .1), ne-eqb _ _ (r .0 .0 .0 .0 .0 .0 .1), ne-eqb _ _ (r .0 .0 .0 .0 .0 .0 .0 .1), ne-eqb _ _ (r .0 .0 .0 .0 .0 .0 .0 .0 .1), ne-eqb _ _ (r .0 .0 .0 .0 .0 .0 .0 .0 .0 .1), ne-eqb _ _ (r .0 .0 .0 .0 .0 .0 .0 .0 .0 .0 .1))
 
 pub channel-call-spec : {M : Type 1} → statement M
 channel-call-spec =

@@ -1,3 +1,4 @@
+use Rattle.calls.specs.ChannelCalls.{modeWrite}
 use borrow.Author.Needs.{needs}
 use Rattle.calls.proofs.channel_calls.mode_write.Statement.{statement}
 use Rattle.calls.proofs.channel_calls.mode_write.Tie as tie
@@ -12,7 +13,8 @@ refuse-requires c κs = search needs
 
 -- src/channel_calls.rt:33:9
 returns : tie.Need-returns
-returns c = ?
+unfolding modeWrite
+returns c = rw (c .refuse .ensures, c .before .if1 .taken)
 
 -- src/channel_calls.rt:38:5
 accept-requires : tie.Need-accept-requires
@@ -20,7 +22,8 @@ accept-requires c κs = search needs
 
 -- src/channel_calls.rt:29:1
 returns-2 : tie.Need-returns-2
-returns-2 c = ?
+unfolding modeWrite
+returns-2 c = rw (c .accept .ensures, c .before .if1 .left)
 
 pub mode-write-spec : {M : Type 1} → statement M
 mode-write-spec = tie.close (tie.spec refuse-requires returns accept-requires returns-2)

@@ -1,3 +1,5 @@
+use borrow.Author.Tests.{eq-eqb, ne-eqb}
+use Rattle.calls.specs.ChannelCalls.{preloadWrite}
 use borrow.Author.Needs.{needs}
 use Rattle.calls.proofs.channel_calls.preload_write.Statement.{statement}
 use Rattle.calls.proofs.channel_calls.preload_write.Tie as tie
@@ -9,17 +11,35 @@ use Rattle.calls.proofs.channel_calls.accept.Reads as accept-reads
 element-write-n : tie.Need-element-write-n
 element-write-n c = search needs
 
--- src/channel_calls.rt:48:9
+-- src/channel_calls.rt:47:9
+accept-requires : tie.Need-accept-requires
+accept-requires c κs = search needs
+
+-- src/channel_calls.rt:47:9
+returns : tie.Need-returns
+unfolding preloadWrite
+returns c = rw (c .accept .ensures, eq-eqb _ _ (c .before .if1 .taken))
+
+-- src/channel_calls.rt:49:5
 element-write-n-2 : tie.Need-element-write-n-2
 element-write-n-2 c = search needs
 
 -- src/channel_calls.rt:50:5
-accept-requires : tie.Need-accept-requires
-accept-requires c κs = search needs
+accept-requires-2 : tie.Need-accept-requires-2
+accept-requires-2 c κs = search needs
 
 -- src/channel_calls.rt:41:1
-returns : tie.Need-returns
-returns c = ?
+returns-2 : tie.Need-returns-2
+unfolding preloadWrite
+returns-2 c = rw (c .accept2 .ensures, ne-eqb _ _ (c .before .if1 .left))
 
 pub preload-write-spec : {M : Type 1} → statement M
-preload-write-spec = tie.close (tie.spec element-write-n element-write-n-2 accept-requires returns)
+preload-write-spec =
+    tie.close
+    (tie.spec
+    element-write-n
+    accept-requires
+    returns
+    element-write-n-2
+    accept-requires-2
+    returns-2)

@@ -16,7 +16,9 @@ accept-requires c κs = search needs
 
 -- src/channel_calls.rt:98:1
 returns : tie.Need-returns
-returns c = ?
+returns c =
+    let c₁ = c .before in
+    rw (c .accept .ensures, c₁ .capture .ensures)
 
 pub snapshot-spec : {M : Type 1} → statement M
 snapshot-spec = tie.close (tie.spec capture-requires accept-requires returns)

@@ -1,3 +1,5 @@
+use borrow.Author.Tests.{eq-eqb, ne-eqb, lt-ltb, le-ltb}
+use Rattle.calls.specs.ChannelCalls.{snapshotRead}
 use borrow.Author.Needs.{needs}
 use Rattle.calls.proofs.channel_calls.snapshot_read.Statement.{statement}
 use Rattle.calls.proofs.channel_calls.snapshot_read.Tie as tie
@@ -13,7 +15,8 @@ number-requires c κs = search needs
 
 -- src/channel_calls.rt:123:9
 returns : tie.Need-returns
-returns c = ?
+unfolding snapshotRead
+returns c = rw (c .number .ensures, lt-ltb _ _ (c .before .if1 .taken))
 
 -- src/channel_calls.rt:126:9
 refuse-requires : tie.Need-refuse-requires
@@ -21,7 +24,8 @@ refuse-requires c κs = search needs
 
 -- src/channel_calls.rt:126:9
 returns-2 : tie.Need-returns-2
-returns-2 c = ?
+unfolding snapshotRead
+returns-2 c = rw (c .refuse .ensures, le-ltb _ _ (c .before .before .if1 .left), eq-eqb _ _ (c .before .if2 .taken))
 
 -- src/channel_calls.rt:128:45
 element-copy-out-t8 : tie.Need-element-copy-out-t8
@@ -41,7 +45,14 @@ pop-requires c κs = search needs
 
 -- src/channel_calls.rt:116:1
 returns-3 : tie.Need-returns-3
-returns-3 c = ?
+unfolding snapshotRead
+returns-3 c =
+    let c₁ = c .before in
+    let c₂ = c₁ .before in
+    let c₃ = c₂ .before in
+    let c₄ = c₃ .before in
+    let c₅ = c₄ .before in
+    rw (c .pop .ensures, le-ltb _ _ (c₅ .if1 .left), ne-eqb _ _ (c₄ .if2 .left))
 
 pub snapshot-read-spec : {M : Type 1} → statement M
 snapshot-read-spec =

@@ -16,7 +16,9 @@ accept-requires c κs = search needs
 
 -- src/channel_calls.rt:104:1
 returns : tie.Need-returns
-returns c = ?
+returns c =
+    let c₁ = c .before in
+    rw (c .accept .ensures, c₁ .preload .ensures)
 
 pub soft-preload-spec : {M : Type 1} → statement M
 soft-preload-spec = tie.close (tie.spec preload-requires accept-requires returns)

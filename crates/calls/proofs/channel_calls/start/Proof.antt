@@ -16,7 +16,9 @@ accept-requires c κs = search needs
 
 -- src/channel_calls.rt:84:1
 returns : tie.Need-returns
-returns c = ?
+returns c =
+    let c₁ = c .before in
+    rw (c .accept .ensures, c₁ .start .ensures)
 
 pub start-spec : {M : Type 1} → statement M
 start-spec = tie.close (tie.spec start-requires accept-requires returns)

@@ -40,7 +40,11 @@ tell-requires c κs = search needs
 
 -- src/channel_calls.rt:132:1
 returns : tie.Need-returns
-returns c = ?
+returns c =
+    let c₁ = c .before in
+    let c₂ = c₁ .before in
+    let c₃ = c₂ .before in
+    rw (c .tell .ensures, c₁ .flag3 .ensures .0, c₂ .flag2 .ensures .0, c₃ .flag .ensures .0)
 
 pub status-spec : {M : Type 1} → statement M
 status-spec =

@@ -1,3 +1,4 @@
+use Rattle.calls.specs.Fields.{fits}
 use borrow.Author.Needs.{needs}
 use Rattle.calls.proofs.fields.fits.Statement.{statement}
 use Rattle.calls.proofs.fields.fits.Tie as tie
@@ -33,7 +34,22 @@ cast-result-2 c = search needs
 
 -- src/fields.rt:29:1
 returns : tie.Need-returns
-returns c = ?
+unfolding fits
+returns c =
+    let c₁ = c .before in
+    let c₂ = c₁ .before in
+    let c₃ = c₂ .before in
+    let c₄ = c₃ .before in
+    let c₅ = c₄ .before in
+    let c₆ = c₅ .before in
+    let c₇ = c₆ .before in
+    let c₈ = c₇ .before in
+    let c₉ = c₈ .before in
+    let c₁₀ = c₉ .before in
+    let c₁₁ = c₁₀ .before in
+    let c₁₂ = c₁₁ .before in
+    let c₁₃ = c₁₂ .before in
+    rw (c₉ .is-good .ensures, c₁₀ .limit .ensures, c₁₁ .pick2 .ensures, c₁₃ .pick .ensures)
 
 pub fits-spec : {M : Type 1} → statement M
 fits-spec =

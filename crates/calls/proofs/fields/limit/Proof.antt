@@ -1,3 +1,8 @@
+use mathlib.Core.Path.{sym}
+use lib.ListN.{List·getD-eq-default}
+use Rattle.calls.specs.Fields.{limits}
+use mathlib.Core.Path.{refl}
+use Rattle.calls.specs.Fields.{limit}
 use borrow.Author.Needs.{needs}
 use Rattle.calls.proofs.fields.limit.Statement.{statement}
 use Rattle.calls.proofs.fields.limit.Tie as tie
@@ -14,11 +19,13 @@ array-read-result c = search needs
 
 -- src/fields.rt:15:1
 returns : tie.Need-returns
-returns c = ?
+unfolding limit limits
+returns c = refl
 
 -- src/fields.rt:15:1
 returns-2 : tie.Need-returns-2
-returns-2 c = ?
+unfolding limit limits
+returns-2 c = sym (List·getD-eq-default limits 0 (c .if1 .left))
 
 pub limit-spec : {M : Type 1} → statement M
 limit-spec = tie.close (tie.spec mul-result array-read-result returns returns-2)

@@ -11,7 +11,7 @@ number-requires c κs = search needs
 
 -- src/pin_calls.rt:12:1
 returns : tie.Need-returns
-returns c = ?
+returns c = rw (c .number .ensures)
 
 pub accept-spec : {M : Type 1} → statement M
 accept-spec = tie.close (tie.spec number-requires returns)

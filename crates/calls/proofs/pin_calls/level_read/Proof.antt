@@ -16,7 +16,9 @@ number-requires c κs = search needs
 
 -- src/pin_calls.rt:54:1
 returns : tie.Need-returns
-returns c = ?
+returns c =
+    let c₁ = c .before in
+    rw (c .number .ensures, c₁ .flag .ensures .0)
 
 pub level-read-spec : {M : Type 1} → statement M
 level-read-spec = tie.close (tie.spec flag-requires number-requires returns)

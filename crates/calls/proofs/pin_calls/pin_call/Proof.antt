@@ -1,3 +1,5 @@
+use borrow.Author.Tests.{ne-eqb}
+use Rattle.calls.specs.PinCalls.{pinCall}
 use borrow.Author.Needs.{needs}
 use Rattle.calls.proofs.pin_calls.pin_call.Statement.{statement}
 use Rattle.calls.proofs.pin_calls.pin_call.Tie as tie
@@ -31,23 +33,41 @@ level-read-requires c κs = search needs
 
 -- src/pin_calls.rt:61:1
 returns : tie.Need-returns
-returns c = ?
+unfolding pinCall
+returns c =
+    let c₁ = c .before in
+    rw (c .source-write .ensures, c₁ .match .keys1)
 
 -- src/pin_calls.rt:61:1
 returns-2 : tie.Need-returns-2
-returns-2 c = ?
+unfolding pinCall
+returns-2 c =
+    let c₁ = c .before in
+    let c₂ = c₁ .before in
+    rw (c .data-write .ensures, c₂ .match .keys2)
 
 -- src/pin_calls.rt:61:1
 returns-3 : tie.Need-returns-3
-returns-3 c = ?
+unfolding pinCall
+returns-3 c =
+    let c₁ = c .before in
+    let c₂ = c₁ .before in
+    rw (c .safe-data-write .ensures, c₂ .match .keys3)
 
 -- src/pin_calls.rt:61:1
 returns-4 : tie.Need-returns-4
-returns-4 c = ?
+unfolding pinCall
+returns-4 c =
+    let c₁ = c .before in
+    let c₂ = c₁ .before in
+    rw (c .safe-enable-write .ensures, c₂ .match .keys4)
 
 -- src/pin_calls.rt:61:1
 returns-5 : tie.Need-returns-5
-returns-5 c = ?
+unfolding pinCall
+returns-5 c =
+    let c₁ = c .before in
+    let r = c₁ .match .rest in simp (c .level-read .ensures, ne-eqb _ _ (r .1), ne-eqb _ _ (r .0 .1), ne-eqb _ _ (r .0 .0 .1), ne-eqb _ _ (r .0 .0 .0 .1))
 
 pub pin-call-spec : {M : Type 1} → statement M
 pin-call-spec =

@@ -16,7 +16,9 @@ number-requires c κs = search needs
 
 -- src/virtual_calls.rt:46:1
 returns : tie.Need-returns
-returns c = ?
+returns c =
+    let c₁ = c .before in
+    rw (c .number .ensures, c₁ .flag .ensures .0)
 
 pub data-read-spec : {M : Type 1} → statement M
 data-read-spec = tie.close (tie.spec flag-requires number-requires returns)

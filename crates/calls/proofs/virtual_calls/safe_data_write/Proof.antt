@@ -5,13 +5,21 @@ use Rattle.calls.proofs.virtual_calls.safe_data_write.Reads as reads
 use Rattle.calls.proofs.virtual_calls.safe_data_write.Lts as lts
 use Rattle.calls.proofs.virtual_calls.accept.Reads as accept-reads
 
--- src/virtual_calls.rt:33:5
+-- src/virtual_calls.rt:32:9
 accept-requires : tie.Need-accept-requires
 accept-requires c κs = search needs
 
--- src/virtual_calls.rt:26:1
+-- src/virtual_calls.rt:32:9
 returns : tie.Need-returns
-returns c = ?
+returns c = rw (c .accept .ensures, c .before .if1 .taken)
+
+-- src/virtual_calls.rt:34:5
+accept-requires-2 : tie.Need-accept-requires-2
+accept-requires-2 c κs = search needs
+
+-- src/virtual_calls.rt:26:1
+returns-2 : tie.Need-returns-2
+returns-2 c = rw (c .accept2 .ensures, c .before .if1 .left)
 
 pub safe-data-write-spec : {M : Type 1} → statement M
-safe-data-write-spec = tie.close (tie.spec accept-requires returns)
+safe-data-write-spec = tie.close (tie.spec accept-requires returns accept-requires-2 returns-2)

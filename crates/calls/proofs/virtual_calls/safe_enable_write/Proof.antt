@@ -5,13 +5,21 @@ use Rattle.calls.proofs.virtual_calls.safe_enable_write.Reads as reads
 use Rattle.calls.proofs.virtual_calls.safe_enable_write.Lts as lts
 use Rattle.calls.proofs.virtual_calls.accept.Reads as accept-reads
 
--- src/virtual_calls.rt:43:5
+-- src/virtual_calls.rt:43:9
 accept-requires : tie.Need-accept-requires
 accept-requires c κs = search needs
 
--- src/virtual_calls.rt:36:1
+-- src/virtual_calls.rt:43:9
 returns : tie.Need-returns
-returns c = ?
+returns c = rw (c .accept .ensures, c .before .if1 .taken)
+
+-- src/virtual_calls.rt:45:5
+accept-requires-2 : tie.Need-accept-requires-2
+accept-requires-2 c κs = search needs
+
+-- src/virtual_calls.rt:37:1
+returns-2 : tie.Need-returns-2
+returns-2 c = rw (c .accept2 .ensures, c .before .if1 .left)
 
 pub safe-enable-write-spec : {M : Type 1} → statement M
-safe-enable-write-spec = tie.close (tie.spec accept-requires returns)
+safe-enable-write-spec = tie.close (tie.spec accept-requires returns accept-requires-2 returns-2)

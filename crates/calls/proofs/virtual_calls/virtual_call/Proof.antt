@@ -1,3 +1,5 @@
+use borrow.Author.Tests.{ne-eqb}
+use Rattle.calls.specs.VirtualCalls.{virtualCall}
 use borrow.Author.Needs.{needs}
 use Rattle.calls.proofs.virtual_calls.virtual_call.Statement.{statement}
 use Rattle.calls.proofs.virtual_calls.virtual_call.Tie as tie
@@ -26,19 +28,34 @@ data-read-requires c κs = search needs
 
 -- src/virtual_calls.rt:53:1
 returns : tie.Need-returns
-returns c = ?
+unfolding virtualCall
+returns c =
+    let c₁ = c .before in
+    let c₂ = c₁ .before in
+    rw (c .data-write .ensures, c₂ .match .keys1)
 
 -- src/virtual_calls.rt:53:1
 returns-2 : tie.Need-returns-2
-returns-2 c = ?
+unfolding virtualCall
+returns-2 c =
+    let c₁ = c .before in
+    let c₂ = c₁ .before in
+    rw (c .safe-data-write .ensures, c₂ .match .keys2)
 
 -- src/virtual_calls.rt:53:1
 returns-3 : tie.Need-returns-3
-returns-3 c = ?
+unfolding virtualCall
+returns-3 c =
+    let c₁ = c .before in
+    let c₂ = c₁ .before in
+    rw (c .safe-enable-write .ensures, c₂ .match .keys3)
 
 -- src/virtual_calls.rt:53:1
 returns-4 : tie.Need-returns-4
-returns-4 c = ?
+unfolding virtualCall
+returns-4 c =
+    let c₁ = c .before in
+    let r = c₁ .match .rest in simp (c .data-read .ensures, ne-eqb _ _ (r .1), ne-eqb _ _ (r .0 .1), ne-eqb _ _ (r .0 .0 .1))
 
 pub virtual-call-spec : {M : Type 1} → statement M
 virtual-call-spec =
