@@ -18,10 +18,10 @@ impl Board {
     fn step_event(self, e: Event) -> Outcome
         ensures { λ r. ⌜ r ≡ outcome (respondBy stepped step self e) ⌝ }
     {
-        if !calls::fits(e) {
-            return self.refuse(3);
+        if calls::fits(e) {
+            return Outcome { board: self.step(e.v, e.w), answer: calls::number(0, 0) };
         }
-        Outcome { board: self.step(e.v, e.w), answer: calls::number(0, 0) }
+        self.refuse(3)
     }
 
     fn channel_event(mut self, e: Event) -> Outcome
@@ -31,15 +31,15 @@ impl Board {
         if 6 <= m {
             return self.refuse(1);
         }
-        if !calls::fits(e) {
-            return self.refuse(3);
+        if calls::fits(e) {
+            let c = self.channels[m];
+            let r = calls::channel_call(self.core.clock.timestamp, e, c);
+            let next = r.channel;
+            let answer = r.answer;
+            self.channels[m] = next;
+            return Outcome { board: self, answer: answer };
         }
-        let c = self.channels[m];
-        let r = calls::channel_call(self.core.clock.timestamp, e, c);
-        let next = r.channel;
-        let answer = r.answer;
-        self.channels[m] = next;
-        Outcome { board: self, answer: answer }
+        self.refuse(3)
     }
 
     fn pin_event(mut self, e: Event) -> Outcome
@@ -49,15 +49,15 @@ impl Board {
         if 48 <= m {
             return self.refuse(1);
         }
-        if !calls::fits(e) {
-            return self.refuse(3);
+        if calls::fits(e) {
+            let pins = self.pins;
+            let r = calls::pin_call(self.core.safety.writes, e, pins.at(m));
+            let next = r.pin;
+            let answer = r.answer;
+            self.pins = pins.put(m, next);
+            return Outcome { board: self, answer: answer };
         }
-        let pins = self.pins;
-        let r = calls::pin_call(self.core.safety.writes, e, pins.at(m));
-        let next = r.pin;
-        let answer = r.answer;
-        self.pins = pins.put(m, next);
-        Outcome { board: self, answer: answer }
+        self.refuse(3)
     }
 
     fn virtual_event(mut self, e: Event) -> Outcome
@@ -67,15 +67,15 @@ impl Board {
         if 6 <= m {
             return self.refuse(1);
         }
-        if !calls::fits(e) {
-            return self.refuse(3);
+        if calls::fits(e) {
+            let outputs = self.virtuals;
+            let r = calls::virtual_call(self.core.safety.writes, e, outputs.at(m));
+            let next = r.output;
+            let answer = r.answer;
+            self.virtuals = outputs.put(m, next);
+            return Outcome { board: self, answer: answer };
         }
-        let outputs = self.virtuals;
-        let r = calls::virtual_call(self.core.safety.writes, e, outputs.at(m));
-        let next = r.output;
-        let answer = r.answer;
-        self.virtuals = outputs.put(m, next);
-        Outcome { board: self, answer: answer }
+        self.refuse(3)
     }
 
     fn board_event(mut self, e: Event) -> Outcome
@@ -84,15 +84,15 @@ impl Board {
         if 1 <= e.member {
             return self.refuse(1);
         }
-        if !calls::fits(e) {
-            return self.refuse(3);
+        if calls::fits(e) {
+            let core = self.core;
+            let r = calls::board_call(e, core);
+            let next = r.core;
+            let answer = r.answer;
+            self.core = next;
+            return Outcome { board: self, answer: answer };
         }
-        let core = self.core;
-        let r = calls::board_call(e, core);
-        let next = r.core;
-        let answer = r.answer;
-        self.core = next;
-        Outcome { board: self, answer: answer }
+        self.refuse(3)
     }
 
     // The answer of an event and the next board, on a board whose fields are in their ranges.

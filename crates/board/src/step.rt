@@ -114,8 +114,8 @@ impl Board {
     pub fn step(self, v: u32, w: u64) -> Board
         ensures { λ r. ⌜ r ≡ stepped v w self ⌝ }
     {
-        let before = self.pins;
-        let pins = before.sense(w);
+        let earlier = self.pins;
+        let pins = earlier.sense(w);
         let own = self.core;
         let core = advance_core(own, words::bit(pins.level, 47));
         let outputs = self.virtuals;
