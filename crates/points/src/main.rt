@@ -1,0 +1,217 @@
+// Runs a table of events and answers through the entry point and compares. The table comes on
+// standard input: a line `= NAME` starts at a reset board; a line of eleven numbers is an event and
+// its answer: times, kind, member, selector, spare, V, W, result, value, timestamp, reason, the
+// event being sent that many times and answered so each time. For each name one line is printed,
+// `ok` or the number of answers that differ; for each of these a line tells what came.
+ghost use Prim.Native.Nat.{_<_, _≤_};
+ghost use lib.ListN.{length};
+
+use board::Board;
+use calls::Answer;
+use calls::Event;
+use libc::STDIN_FILENO;
+use libc::STDOUT_FILENO;
+
+struct Number {
+    value: u64,
+    next: usize,
+}
+
+struct Row {
+    times: u64,
+    event: Event,
+    answer: Answer,
+    next: usize,
+}
+
+struct Tally {
+    board: Board,
+    wrong: u64,
+    named: bool,
+}
+
+// The place behind the line that starts at `at`.
+fn line_end(text: &[u8], at: usize) -> usize
+    requires { ⌜ at < length (now text) ⌝ }
+    ensures { λ r. ⌜ at < r ⌝ }
+    ensures { λ r. ⌜ r ≤ length (now (text .entry)) ⌝ }
+{
+    let mut i = at;
+    while i < text.len() {
+        if text[i] == b'\n' {
+            return i + 1;
+        }
+        i += 1;
+    }
+    i
+}
+
+// The place past a space at `at`, if there is one.
+fn past_space(text: &[u8], at: usize) -> usize
+    requires { ⌜ at ≤ length (now text) ⌝ }
+    ensures { λ r. ⌜ r ≤ length (now (text .entry)) ⌝ }
+{
+    if at < text.len() {
+        if text[at] == b' ' {
+            return at + 1;
+        }
+    }
+    at
+}
+
+// The decimal number at `at`, past one space, and the place behind it.
+fn number_at(text: &[u8], at: usize) -> Number
+    requires { ⌜ at ≤ length (now text) ⌝ }
+    ensures { λ r. ⌜ r .next ≤ length (now (text .entry)) ⌝ }
+{
+    let mut i = past_space(text, at);
+    let mut value: u64 = 0;
+    while i < text.len() {
+        let b = text[i];
+        if (b < b'0') | (b'9' < b) {
+            return Number { value: value, next: i };
+        }
+        value = value % 1_000_000_000_000_000_000 * 10 + wide(b) % 16;
+        i += 1;
+    }
+    Number { value: value, next: i }
+}
+
+fn wide(b: u8) -> u64 {
+    b as u64
+}
+
+fn byte(n: u64) -> u8 {
+    (n % 256) as u8
+}
+
+fn word(n: u64) -> u32 {
+    (n % 4294967296) as u32
+}
+
+// The row that starts at `at`.
+fn row_at(text: &[u8], at: usize) -> Row
+    requires { ⌜ at ≤ length (now text) ⌝ }
+    ensures { λ r. ⌜ r .next ≤ length (now (text .entry)) ⌝ }
+{
+    let times = number_at(text, at);
+    let kind = number_at(text, times.next);
+    let member = number_at(text, kind.next);
+    let selector = number_at(text, member.next);
+    let spare = number_at(text, selector.next);
+    let v = number_at(text, spare.next);
+    let w = number_at(text, v.next);
+    let result = number_at(text, w.next);
+    let value = number_at(text, result.next);
+    let timestamp = number_at(text, value.next);
+    let reason = number_at(text, timestamp.next);
+    Row {
+        times: times.value,
+        event: Event {
+            kind: byte(kind.value),
+            member: byte(member.value),
+            selector: byte(selector.value),
+            spare: byte(spare.value),
+            v: word(v.value),
+            w: w.value,
+        },
+        answer: Answer {
+            result: word(result.value),
+            value: word(value.value),
+            timestamp: word(timestamp.value),
+            reason: word(reason.value),
+        },
+        next: reason.next,
+    }
+}
+
+fn same(a: Answer, b: Answer) -> bool {
+    (a.result == b.result) & (a.value == b.value) & (a.timestamp == b.timestamp) & (a.reason == b.reason)
+}
+
+fn put(n: u64) {
+    io::print_decimal(STDOUT_FILENO, n);
+    io::write_all(STDOUT_FILENO, b" ");
+}
+
+// What was sent, and what came in place of the answer in the table.
+fn differs(e: Event, a: Answer) {
+    io::write_all(STDOUT_FILENO, b"\n  kind ");
+    put(e.kind as u64);
+    io::write_all(STDOUT_FILENO, b"got ");
+    put(a.result as u64);
+    put(a.value as u64);
+    put(a.timestamp as u64);
+    put(a.reason as u64);
+}
+
+// The row's event, `times` times.
+fn run_row(t: Tally, row: Row) -> Tally {
+    let mut board = t.board;
+    let mut wrong = t.wrong;
+    let e = row.event;
+    let expected = row.answer;
+    let times = row.times;
+    let mut i: u64 = 0;
+    while i < times {
+        let o = board::apply(board, e);
+        let next = o.board;
+        let a = o.answer;
+        board = next;
+        if !same(a, expected) {
+            differs(e, a);
+            wrong = std::num::wrapping_add_u64(wrong, 1);
+        }
+        i += 1;
+    }
+    Tally { board: board, wrong: wrong, named: t.named }
+}
+
+// The end of a name's line, once its rows have been run.
+fn tell(named: bool, wrong: u64) {
+    if !named {
+        return;
+    }
+    if wrong == 0 {
+        io::write_all(STDOUT_FILENO, b": ok\n");
+    } else {
+        io::write_all(STDOUT_FILENO, b": differs ");
+        io::print_decimal(STDOUT_FILENO, wrong);
+        io::write_all(STDOUT_FILENO, b"\n");
+    }
+}
+
+// The line that starts at `at` and ends before `next`.
+fn run_line(t: Tally, text: &[u8], at: usize, next: usize) -> Tally
+    requires { ⌜ at < next ⌝ }
+    requires { ⌜ next ≤ length (now text) ⌝ }
+{
+    let b = text[at];
+    if b == b'=' {
+        tell(t.named, t.wrong);
+        io::write_all(STDOUT_FILENO, &text[at..next - 1]);
+        return Tally { board: board::reset(), wrong: 0, named: true };
+    }
+    if (b < b'0') | (b'9' < b) {
+        return t;
+    }
+    let row = row_at(text, at);
+    run_row(t, row)
+}
+
+fn run(text: &[u8]) {
+    let mut t = Tally { board: board::reset(), wrong: 0, named: false };
+    let mut at: usize = 0;
+    while at < text.len() {
+        let next = line_end(text, at);
+        t = run_line(t, text, at, next);
+        at = next;
+    }
+    tell(t.named, t.wrong);
+}
+
+fn main() {
+    let mut space = io::large_buffer();
+    let n = io::read_full(STDIN_FILENO, &mut space);
+    run(&space[..n]);
+}

@@ -1,0 +1,32 @@
+-- Proofs by the cases of a test.
+-- Assumes nothing.
+use mathlib.Core.Path.{_≡_, refl}
+use mathlib.Core.Bool.{Bool, true, false, cond, not, _&&_, _||_}
+
+-- each branch has to be shown where the test says so
+pub tested : {A : Type 0} (P : A → Type 0) (t : Bool) {x y : A} → (t ≡ true → P x) → (t ≡ false → P y) → P (cond t x y)
+tested P true h k = h refl
+tested P false h k = k refl
+
+-- what holds of both branches holds of the choice
+pub either : {A : Type 0} (P : A → Type 0) (t : Bool) {x y : A} → P x → P y → P (cond t x y)
+either P t h k = tested P t (λ e. h) (λ e. k)
+
+-- the branch that the test takes
+pub taken : {A : Type 0} {t : Bool} (x y : A) → t ≡ true → cond t x y ≡ x
+taken x y h = rw h
+
+pub and-first : (s t : Bool) → (s && t) ≡ true → s ≡ true
+and-first true t h = refl
+and-first false t h = h
+
+pub and-second : (s t : Bool) → (s && t) ≡ true → t ≡ true
+and-second true t h = h
+and-second false true h = refl
+and-second false false h = h
+
+-- a test that is asked only under another
+pub asked : (s t : Bool) → (not s || t) ≡ true → s ≡ true → t ≡ true
+asked true t h k = h
+asked false true h k = refl
+asked false false h k = k

@@ -1,0 +1,10 @@
+pub mod Cases
+pub mod Tables
+pub mod Fitting
+pub mod Sound
+pub mod RangedQueue
+pub mod RangedStep
+pub mod RangedChannel
+pub mod RangedPins
+pub mod RangedVirtuals
+pub mod RangedCore

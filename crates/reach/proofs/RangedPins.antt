@@ -1,0 +1,99 @@
+-- The calls of a pin and the parts of a step keep the pins in range.
+-- Assumes nothing.
+use mathlib.Core.Path.{_≡_}
+use mathlib.Core.Bool.{Bool, true, false, cond}
+use Prim.Native.Nat.{ℕ, _+_, _*_, _%_, _^_, _<_}
+use native.Mathlib.Omega.{arith}
+use lib.Dec.{eqb}
+use Rattle.words.specs.Bits.{bit, flag, word}
+use Rattle.words.proofs.BitLaws.{word-lt, word-of, bit-word}
+use Rattle.ports.specs.Pins.{number, pinAt, putPin, sensedWith, driven}
+use Rattle.ports.specs.declared.Pin.{Pin}
+use Rattle.ports.specs.declared.Pins.{Pins}
+use Rattle.calls.specs.Fields.{limits, limit, fits}
+use Rattle.calls.specs.PinCalls.{pinCall}
+use Rattle.calls.specs.declared.Event.{Event}
+use Rattle.reach.specs.Range.{PinsInRange}
+use Rattle.reach.proofs.Cases.{tested, either}
+use Rattle.reach.proofs.Fitting.{below-limit}
+use Rattle.reach.proofs.Sound.{Sound, done}
+
+-- ---- one pin
+
+pub record PinInRange (q : Pin) : Type 0 where
+  pub source : q .source < 7
+
+pub pin-sound : (q : Pin) → PinInRange q → (writes : Bool) (e : Event) → fits e ≡ true → Sound PinInRange (λ y. ⊥) q (pinCall writes e q)
+unfolding pinCall limit limits
+pin-sound q r writes e f =
+    let S = Sound PinInRange (λ y. ⊥) q in
+    let k = e .kind in
+    tested S (eqb k 13) (λ h. done (record { source = below-limit e f 13 h })) (λ _.
+    either S (eqb k 14) (done (record { source = r .source }))
+    (either S (eqb k 15) (done (either PinInRange writes (record { source = r .source }) r))
+    (either S (eqb k 16) (done (either PinInRange writes (record { source = r .source }) r))
+    (done r))))
+
+-- ---- all pins
+
+-- the levels and the driven values may be any 48 bits
+free : {x : Pins} {level driven : ℕ} → PinsInRange x → level < 2 ^ 48 → driven < 2 ^ 48
+    → PinsInRange (record {
+      level = level;
+      driven = driven;
+      own = x .own;
+      safedata = x .safedata;
+      safeenable = x .safeenable;
+      source0 = x .source0;
+      source1 = x .source1;
+      source2 = x .source2;
+    })
+unfolding pinAt
+free r l d = record {
+  level = l;
+  driven = d;
+  own = r .own;
+  safedata = r .safedata;
+  safeenable = r .safeenable;
+  source0 = r .source0;
+  source1 = r .source1;
+  source2 = r .source2;
+  source = r .source;
+}
+
+-- the number of the three low bits
+low-bits : (n : ℕ) → n < 7 → number (bit n 0) (bit n 1) (bit n 2) < 7
+unfolding word
+low-bits n h = let e : n % 2 ^ 3 ≡ word 3 (bit n) = word-of 3 n in omega arith
+
+chosen : (t : Bool) (n : ℕ) (x : Pins) (i : ℕ) → n < 7 → pinAt x i .source < 7
+    → number (cond t (bit n 0) (bit (x .source0) i)) (cond t (bit n 1) (bit (x .source1) i)) (cond t (bit n 2) (bit (x .source2) i)) < 7
+unfolding pinAt
+chosen true n x i h k = low-bits n h
+chosen false n x i h k = k
+
+module _ (x : Pins) (r : PinsInRange x) where
+  pub pin-ranged : (p : ℕ) → p < 48 → PinInRange (pinAt x p)
+  pin-ranged p h = record { source = r .source p h }
+
+  pub put-ranged : (p : ℕ) (q : Pin) → PinInRange q → PinsInRange (putPin p q x)
+  unfolding pinAt putPin
+  put-ranged p q s = record {
+    level = word-lt 48 _;
+    driven = word-lt 48 _;
+    own = word-lt 48 _;
+    safedata = word-lt 48 _;
+    safeenable = word-lt 48 _;
+    source0 = word-lt 48 _;
+    source1 = word-lt 48 _;
+    source2 = word-lt 48 _;
+    source = λ i h. simp bit-word (chosen (eqb i p) (q .source) x i (s .source) (r .source i h));
+  }
+
+  pub sensed-ranged : (level : Pins → ℕ → ℕ → Bool) (w : ℕ) → PinsInRange (sensedWith level w x)
+  unfolding sensedWith
+  sensed-ranged level w = free r (word-lt 48 _) (r .driven)
+
+  pub driven-ranged : (outs : ℕ) (safemode : Bool) → PinsInRange (driven outs safemode x)
+  unfolding driven
+  driven-ranged outs safemode = free r (r .level) (word-lt 48 _)

@@ -1,0 +1,26 @@
+-- A call of a virtual output keeps the outputs in range.
+-- Assumes nothing.
+use mathlib.Core.Path.{_≡_}
+use mathlib.Core.Bool.{Bool}
+use Prim.Native.Nat.{ℕ}
+use lib.Dec.{eqb}
+use Rattle.words.proofs.BitLaws.{word-lt}
+use Rattle.ports.specs.Virtuals.{putVirtual}
+use Rattle.ports.specs.declared.Virtual.{Virtual}
+use Rattle.ports.specs.declared.Virtuals.{Virtuals}
+use Rattle.calls.specs.VirtualCalls.{virtualCall}
+use Rattle.calls.specs.declared.Event.{Event}
+use Rattle.reach.specs.Range.{VirtualsInRange}
+use Rattle.reach.proofs.Cases.{either}
+use Rattle.reach.proofs.Sound.{Sound, done}
+
+-- every record of one output is in range
+pub virtual-sound : (writes : Bool) (e : Event) (o : Virtual) → Sound (λ y. Unit {0}) (λ y. ⊥) o (virtualCall writes e o)
+unfolding virtualCall
+virtual-sound writes e o =
+    let S = Sound (λ y. Unit {0}) (λ y. ⊥) o in
+    either S (eqb (e .kind) 18) (done tt) (either S (eqb (e .kind) 19) (done tt) (either S (eqb (e .kind) 20) (done tt) (done tt)))
+
+pub put-ranged : (o : ℕ) (q : Virtual) (x : Virtuals) → VirtualsInRange (putVirtual o q x)
+unfolding putVirtual
+put-ranged o q x = record { own = word-lt 6 _; safedata = word-lt 6 _; safeenable = word-lt 6 _ }

@@ -1,0 +1,32 @@
+-- Every row of the table of bench readings, computed on the definition of the machine.
+-- Assumes nothing.
+use mathlib.Core.Path.{_≡_, refl}
+use mathlib.Core.List.{map}
+use Rattle.words.specs.Bits.{bit, word}
+use Rattle.words.specs.Table.{tab}
+use Rattle.counter.specs.Advance.{difference, masked, caughtOf, finished, live, resting, nextOf, settled, advance}
+use Rattle.counter.specs.Difference.{clocked}
+use Rattle.counter.specs.Preload.{preloaded, started}
+use Rattle.counter.specs.Queue.{captured, popped}
+use Rattle.counter.specs.Repair.{resetChannel}
+use Rattle.ports.specs.Pins.{pinAt, putPin, pinLevel, sensedWith, driven, resetPins}
+use Rattle.ports.specs.Virtuals.{virtualAt, putVirtual, virtualLevels, resetVirtuals, routed}
+use Rattle.control.specs.Clock.{advanced, ticks}
+use Rattle.control.specs.Safety.{guarded}
+use Rattle.control.specs.Watchdog.{watched, kicked, switched}
+use Rattle.control.specs.Whole.{resetCore}
+use Rattle.calls.specs.BoardCalls.{intervalWrite, boardCall}
+use Rattle.calls.specs.ChannelCalls.{modeWrite, preloadWrite, compareWrite, routeWrite, snapshotRead, channelCall}
+use Rattle.calls.specs.Fields.{limits, limit, fits}
+use Rattle.calls.specs.PinCalls.{pinCall}
+use Rattle.calls.specs.VirtualCalls.{virtualCall}
+use Rattle.board.specs.Handed.{resetBoard}
+use Rattle.board.specs.Inputs.{extouts, indexOf, samplesOf, inputsOf, channelNext, allNext}
+use Rattle.board.specs.Respond.{respondBy, respondWith, respond}
+use Rattle.board.specs.Runs.{finish}
+use Rattle.board.specs.Step.{sceneOf, coreNext, stepWith, stepped}
+use Rattle.readings.specs.Readings.{Reading, call, preload1, steps, lines, seen, read, delay, cascade, turn, error, seventeen, pulses, table}
+
+pub readings : map read table ≡ map (λ r. r .numbers) table
+unfolding bit word tab difference masked caughtOf finished live resting nextOf settled advance clocked preloaded started captured popped resetChannel pinAt putPin pinLevel sensedWith driven resetPins virtualAt putVirtual virtualLevels resetVirtuals routed advanced ticks guarded watched kicked switched resetCore intervalWrite boardCall modeWrite preloadWrite compareWrite routeWrite snapshotRead channelCall limits limit fits pinCall virtualCall resetBoard extouts indexOf samplesOf inputsOf channelNext allNext respondBy respondWith respond finish sceneOf coreNext stepWith stepped call preload1 steps lines seen read delay cascade turn error seventeen pulses table
+readings = refl

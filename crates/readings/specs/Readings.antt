@@ -1,0 +1,132 @@
+-- Document 01, "Bench readings", a to j: lists of events from reset, what is then looked at, and the numbers that are read.
+-- Assumes nothing.
+use mathlib.Core.List.{List, [], _∷_, _++_, map}
+use Prim.Native.Nat.{ℕ}
+use lib.ListN.{replicate}
+use Rattle.words.specs.Bits.{flag}
+use Rattle.calls.specs.declared.Event.{Event}
+use Rattle.calls.specs.declared.Answer.{Answer}
+use Rattle.board.specs.Inputs.{channelIn}
+use Rattle.board.specs.Respond.{respond}
+use Rattle.board.specs.Handed.{resetBoard}
+use Rattle.board.specs.Runs.{finish}
+use Rattle.board.specs.declared.Board.{Board}
+
+-- ---- events
+
+-- a call of kind k on member m with argument v
+unfoldable pub call : ℕ → ℕ → ℕ → Event
+call k m v = record { kind = k; member = m; selector = 0; spare = 0; v = v; w = 0 }
+
+-- a preload write to register 1
+unfoldable pub preload1 : ℕ → ℕ → Event
+preload1 m v = record { kind = 2; member = m; selector = 1; spare = 0; v = v; w = 0 }
+
+-- n steps with every line down
+unfoldable pub steps : ℕ → List Event
+steps n = replicate n (call 0 0 0)
+
+-- the steps with the lines of channel 0 at A + 2 B
+unfoldable pub lines : List ℕ → List Event
+lines l = map (call 0 0) l
+
+-- ---- what is looked at after the events
+
+pub data Look : Type 0 where
+  -- a channel's count
+  count : ℕ → Look
+  -- a channel's ExtOut
+  extout : ℕ → Look
+  -- the four numbers of the answer to one event more
+  answer : Event → Look
+
+unfoldable pub seen : Board → Look → List ℕ
+seen b (count c) = channelIn (b .channels) c .count ∷ []
+seen b (extout c) = flag (channelIn (b .channels) c .extout) ∷ []
+seen b (answer e) =
+    let a : Answer = respond b e .answer in
+    a .result ∷ a .value ∷ a .timestamp ∷ a .reason ∷ []
+
+pub record Reading : Type 0 where
+  pub events : List Event
+  pub look : Look
+  pub numbers : List ℕ
+
+abbrev pub reading : List Event → Look → List ℕ → Reading
+reading es l ns = record { events = es; look = l; numbers = ns }
+
+-- what the machine gives
+unfoldable pub read : Reading → List ℕ
+read r = seen (finish respond resetBoard (r .events)) (r .look)
+
+-- ---- the settings of each reading
+
+-- a, b: channel 0 in mode 0x014C0120, preload 3, mask 4, started
+unfoldable pub delay : List Event
+delay = call 1 0 0x014C0120 ∷ call 2 0 3 ∷ call 5 0 4 ∷ call 6 0 0 ∷ []
+
+-- c, d, i: channel m counts every step from 4294967295, and channel n its carries
+unfoldable pub cascade : ℕ → ℕ → List Event
+cascade m n = call 1 m 0x30 ∷ call 2 m 4294967295 ∷ call 9 m 0 ∷ call 6 m 0 ∷ call 1 n 0x40 ∷ call 6 n 0 ∷ []
+
+-- e: channel 0 by a quadrature mode, through 00, 10, 11, 01, 00
+unfoldable pub turn : ℕ → List Event
+turn mode = call 1 0 mode ∷ call 6 0 0 ∷ lines (1 ∷ 3 ∷ 2 ∷ 0 ∷ [])
+
+-- f: both lines change at once
+unfoldable pub error : List Event
+error = call 1 0 0x70 ∷ call 5 0 256 ∷ call 6 0 0 ∷ lines (3 ∷ [])
+
+-- g: seventeen soft snapshots
+unfoldable pub seventeen : List Event
+seventeen = replicate 17 (call 8 0 0)
+
+-- h: channel 0 in mode 0x01682030 with preloads 2 and 3, started
+unfoldable pub pulses : List Event
+pulses = call 1 0 0x01682030 ∷ call 2 0 2 ∷ preload1 0 3 ∷ call 6 0 0 ∷ []
+
+-- ---- the table
+
+unfoldable pub table : List Reading
+table =
+    -- a
+    reading (delay ++ steps 50) (count 0) (2 ∷ [])
+    ∷ reading (delay ++ steps 149) (extout 0) (1 ∷ [])
+    ∷ reading (delay ++ steps 149) (answer (call 11 0 0)) (5 ∷ 0 ∷ 0 ∷ 0 ∷ [])
+    ∷ reading (delay ++ steps 150) (answer (call 11 0 0)) (0 ∷ 0 ∷ 3 ∷ 4 ∷ [])
+    ∷ reading (delay ++ steps 150) (extout 0) (0 ∷ [])
+    -- b
+    ∷ reading (delay ++ steps 200) (count 0) (0 ∷ [])
+    -- c
+    ∷ reading (cascade 0 1) (count 0) (4294967295 ∷ [])
+    ∷ reading (cascade 0 1 ++ steps 1) (count 0) (0 ∷ [])
+    -- d
+    ∷ reading (cascade 0 1 ++ steps 1) (count 1) (0 ∷ [])
+    ∷ reading (cascade 0 1 ++ steps 2) (count 1) (1 ∷ [])
+    -- e
+    ∷ reading (turn 0x70) (count 0) (4 ∷ [])
+    ∷ reading (turn 0x60) (count 0) (2 ∷ [])
+    ∷ reading (turn 0x50) (count 0) (1 ∷ [])
+    -- f
+    ∷ reading error (count 0) (0 ∷ [])
+    ∷ reading error (answer (call 11 0 0)) (0 ∷ 0 ∷ 0 ∷ 256 ∷ [])
+    -- g
+    ∷ reading seventeen (answer (call 11 0 0)) (6 ∷ 1 ∷ 0 ∷ 0 ∷ [])
+    ∷ reading (seventeen ++ replicate 1 (call 11 0 0)) (answer (call 11 0 0)) (0 ∷ 0 ∷ 0 ∷ 128 ∷ [])
+    ∷ reading (seventeen ++ replicate 16 (call 11 0 0)) (answer (call 11 0 0)) (0 ∷ 0 ∷ 0 ∷ 128 ∷ [])
+    ∷ reading (seventeen ++ replicate 17 (call 11 0 0)) (answer (call 11 0 0)) (5 ∷ 0 ∷ 0 ∷ 0 ∷ [])
+    -- h
+    ∷ reading (pulses ++ steps 1) (extout 0) (1 ∷ [])
+    ∷ reading (pulses ++ steps 2) (extout 0) (0 ∷ [])
+    ∷ reading (pulses ++ steps 3) (extout 0) (0 ∷ [])
+    ∷ reading (pulses ++ steps 4) (extout 0) (0 ∷ [])
+    ∷ reading (pulses ++ steps 5) (extout 0) (1 ∷ [])
+    ∷ reading (pulses ++ steps 6) (extout 0) (1 ∷ [])
+    ∷ reading (pulses ++ steps 7) (extout 0) (0 ∷ [])
+    -- i
+    ∷ reading (cascade 5 0 ++ steps 1) (count 0) (0 ∷ [])
+    ∷ reading (cascade 5 0 ++ steps 2) (count 0) (1 ∷ [])
+    -- j
+    ∷ reading [] (answer (call 25 0 0)) (3 ∷ 0 ∷ 0 ∷ 0 ∷ [])
+    ∷ reading [] (answer (call 25 0 1)) (0 ∷ 0 ∷ 0 ∷ 0 ∷ [])
+    ∷ []
