@@ -8,3 +8,4 @@ pub mod RangedChannel
 pub mod RangedPins
 pub mod RangedVirtuals
 pub mod RangedCore
+pub mod RangedBoard

@@ -33,18 +33,18 @@ started-ranged c r =
 module _ (c : Channel) (r : ChannelInRange c) where
   -- an answer 6 sets the lost count to 0
   abbrev pub SoundCall : Reply Channel → Type 0
-  SoundCall = Sound ChannelInRange (λ y. y ≡ withLost 0 c) c
+  SoundCall = Sound ChannelInRange (λ y. y ≡ c) (λ y. y ≡ withLost 0 c)
 
   mode-sound : (v : ℕ) → goodMode v ≡ true → SoundCall (modeWrite v c)
   unfolding modeWrite
   mode-sound v g =
-      either SoundCall (c .running) (refusal 4 refl r)
+      either SoundCall (c .running) (refusal 4 c refl r refl)
       (done (record { mode = g; route = r .route; mask = r .mask; kept = r .kept; carry = r .carry; places = r .places; reasons = r .reasons; held = r .held }))
 
   route-sound : (v : ℕ) → v < 55 → SoundCall (routeWrite v c)
   unfolding routeWrite
   route-sound v b =
-      either SoundCall (c .running) (refusal 4 refl r)
+      either SoundCall (c .running) (refusal 4 c refl r refl)
       (done (record { mode = r .mode; route = b; mask = r .mask; kept = r .kept; carry = r .carry; places = r .places; reasons = r .reasons; held = r .held }))
 
   mask-sound : (v : ℕ) → v < 512 → SoundCall (maskWrite v c)
@@ -55,7 +55,7 @@ module _ (c : Channel) (r : ChannelInRange c) where
   read-sound =
       either SoundCall (ltb 0 (c .lost))
       (record { ranged = free r; refused = λ i j. absurd (true≢false j); lost = λ j. refl })
-      (either SoundCall (eqb (c .held) 0) (refusal 5 refl r) (done (popped-ranged c r)))
+      (either SoundCall (eqb (c .held) 0) (refusal 5 c refl r refl) (done (popped-ranged c r)))
 
   pub channel-sound : (t : ℕ) (e : Event) → fits e ≡ true → SoundCall (channelCall t e c)
   unfolding channelCall preloadWrite compareWrite limit limits

@@ -17,7 +17,7 @@ use Rattle.board.specs.Step.{coreNext}
 use Rattle.reach.specs.Range.{CoreInRange}
 use Rattle.reach.proofs.Cases.{tested, either}
 use Rattle.reach.proofs.Fitting.{below-limit, not-zero}
-use Rattle.reach.proofs.Sound.{Sound, refusal, done}
+use Rattle.reach.proofs.Sound.{Sound, Never, refusal, done}
 
 -- ---- the watchdog keeps its interval
 
@@ -46,15 +46,15 @@ free : {k : Core} {timestamp rest : ℕ} {enabled expired writes safemode : Bool
 free r = record { prescaler = r .prescaler; interval = r .interval; control = r .control }
 
 module _ (k : Core) (r : CoreInRange k) where
-  pub core-sound : (e : Event) → fits e ≡ true → Sound CoreInRange (λ y. ⊥) k (boardCall e k)
+  pub core-sound : (e : Event) → fits e ≡ true → Sound CoreInRange (λ y. y ≡ k) Never (boardCall e k)
   unfolding boardCall intervalWrite kicked limit limits
   core-sound e f =
-      let S = Sound CoreInRange (λ y. ⊥) k in
+      let S = Sound CoreInRange (λ y. y ≡ k) Never in
       let n = e .kind in
       tested S (eqb n 22) (λ h. done (record { prescaler = r .prescaler; interval = r .interval; control = below-limit e f 22 h })) (λ _.
       either S (eqb n 23) (done (free r))
       (either S (eqb n 24) (done (free r))
-      (tested S (eqb n 25) (λ h. either S (k .watchdog .enabled) (refusal 7 refl r)
+      (tested S (eqb n 25) (λ h. either S (k .watchdog .enabled) (refusal 7 k refl r refl)
       (done (record { prescaler = r .prescaler; interval = not-zero e f h; control = r .control }))) (λ _.
       either S (eqb n 26) (done (record { prescaler = r .prescaler; interval = rw (switched-timed (k .watchdog) (eqb (e .v) 1) .interval) (r .interval); control = r .control }))
       (either S (eqb n 27) (done (free r))

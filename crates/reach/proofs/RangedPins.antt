@@ -16,17 +16,17 @@ use Rattle.calls.specs.declared.Event.{Event}
 use Rattle.reach.specs.Range.{PinsInRange}
 use Rattle.reach.proofs.Cases.{tested, either}
 use Rattle.reach.proofs.Fitting.{below-limit}
-use Rattle.reach.proofs.Sound.{Sound, done}
+use Rattle.reach.proofs.Sound.{Sound, Never, done}
 
 -- ---- one pin
 
 pub record PinInRange (q : Pin) : Type 0 where
   pub source : q .source < 7
 
-pub pin-sound : (q : Pin) → PinInRange q → (writes : Bool) (e : Event) → fits e ≡ true → Sound PinInRange (λ y. ⊥) q (pinCall writes e q)
+pub pin-sound : (q : Pin) → PinInRange q → (writes : Bool) (e : Event) → fits e ≡ true → Sound PinInRange Never Never (pinCall writes e q)
 unfolding pinCall limit limits
 pin-sound q r writes e f =
-    let S = Sound PinInRange (λ y. ⊥) q in
+    let S = Sound PinInRange Never Never in
     let k = e .kind in
     tested S (eqb k 13) (λ h. done (record { source = below-limit e f 13 h })) (λ _.
     either S (eqb k 14) (done (record { source = r .source }))

@@ -12,13 +12,13 @@ use Rattle.calls.specs.VirtualCalls.{virtualCall}
 use Rattle.calls.specs.declared.Event.{Event}
 use Rattle.reach.specs.Range.{VirtualsInRange}
 use Rattle.reach.proofs.Cases.{either}
-use Rattle.reach.proofs.Sound.{Sound, done}
+use Rattle.reach.proofs.Sound.{Sound, Never, done}
 
 -- every record of one output is in range
-pub virtual-sound : (writes : Bool) (e : Event) (o : Virtual) → Sound (λ y. Unit {0}) (λ y. ⊥) o (virtualCall writes e o)
+pub virtual-sound : (writes : Bool) (e : Event) (o : Virtual) → Sound (λ y. Unit {0}) Never Never (virtualCall writes e o)
 unfolding virtualCall
 virtual-sound writes e o =
-    let S = Sound (λ y. Unit {0}) (λ y. ⊥) o in
+    let S = Sound (λ y. Unit {0}) Never Never in
     either S (eqb (e .kind) 18) (done tt) (either S (eqb (e .kind) 19) (done tt) (either S (eqb (e .kind) 20) (done tt) (done tt)))
 
 pub put-ranged : (o : ℕ) (q : Virtual) (x : Virtuals) → VirtualsInRange (putVirtual o q x)

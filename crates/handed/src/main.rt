@@ -1,0 +1,157 @@
+// Boards handed in with every field outside its range: the answer, and what is stored of the
+// board, by events that are accepted, refused, and answered 6.
+use board::Board;
+use board::Outcome;
+use calls::Event;
+use control::Clock;
+use control::Core;
+use control::Safety;
+use control::Watchdog;
+use counter::Channel;
+use libc::STDOUT_FILENO;
+use ports::Pins;
+use ports::Virtuals;
+
+const ALL: u32 = 4294967295;
+const EVERY: u64 = 18446744073709551615;
+
+fn broken_channel(lost: u32) -> Channel {
+    Channel {
+        mode: ALL,
+        preloads: [5, 6],
+        compares: [7, 8],
+        route: 255,
+        mask: ALL,
+        count: 9,
+        running: false,
+        armed: true,
+        second: true,
+        kept: ALL,
+        extout: true,
+        carry: -2,
+        counts: [11; 16],
+        timestamps: [12; 16],
+        reasons: [4660; 16],
+        held: 200,
+        lost: lost,
+    }
+}
+
+fn broken_core() -> Core {
+    Core {
+        clock: Clock { prescaler: ALL, timestamp: ALL },
+        watchdog: Watchdog { interval: 0, rest: ALL, enabled: false, expired: true },
+        safety: Safety { control: ALL, writes: false, safemode: true },
+    }
+}
+
+// Channel 0 has lost captures, channel 1 has none.
+fn broken() -> Board {
+    let c = broken_channel(3);
+    let d = broken_channel(0);
+    Board {
+        channels: [c, d, d, d, d, d],
+        pins: Pins {
+            level: EVERY,
+            driven: EVERY,
+            own: EVERY,
+            safedata: EVERY,
+            safeenable: EVERY,
+            source0: EVERY,
+            source1: EVERY,
+            source2: EVERY,
+        },
+        virtuals: Virtuals { own: EVERY, safedata: EVERY, safeenable: EVERY },
+        core: broken_core(),
+    }
+}
+
+fn text(t: &[u8]) {
+    io::write_all(STDOUT_FILENO, t);
+}
+
+fn number(name: &[u8], n: u64) {
+    text(name);
+    io::print_decimal(STDOUT_FILENO, n);
+}
+
+fn small(name: &[u8], n: u32) {
+    number(name, n as u64);
+}
+
+fn signed(name: &[u8], d: i32) {
+    text(name);
+    if d < 0 {
+        text(b"below 0");
+    } else {
+        if 0 < d { text(b"above 0") } else { text(b"0") }
+    }
+}
+
+fn show_channel(c: Channel) {
+    small(b"  mode ", c.mode);
+    small(b" route ", c.route);
+    small(b" mask ", c.mask);
+    small(b" count ", c.count);
+    small(b" kept ", c.kept);
+    signed(b" carry ", c.carry);
+    small(b" held ", c.held);
+    small(b" lost ", c.lost);
+    small(b" reason ", c.reasons[0]);
+    text(b"\n");
+}
+
+fn show_pins(x: Pins) {
+    number(b"  level ", x.level);
+    number(b" driven ", x.driven);
+    number(b" own ", x.own);
+    number(b" source ", x.source0);
+    number(b" ", x.source1);
+    number(b" ", x.source2);
+    text(b"\n");
+}
+
+fn show_core(k: Core) {
+    small(b"  prescaler ", k.clock.prescaler);
+    small(b" timestamp ", k.clock.timestamp);
+    small(b" interval ", k.watchdog.interval);
+    small(b" rest ", k.watchdog.rest);
+    small(b" control ", k.safety.control);
+    text(b"\n");
+}
+
+fn show(name: &[u8], o: Outcome) {
+    text(name);
+    small(b": ", o.answer.result);
+    small(b" ", o.answer.value);
+    small(b" ", o.answer.timestamp);
+    small(b" ", o.answer.reason);
+    text(b"\n");
+    let b = o.board;
+    let c = b.channels[0];
+    let pins = b.pins;
+    let virtuals = b.virtuals;
+    let core = b.core;
+    show_channel(c);
+    show_pins(pins);
+    number(b"  outputs ", virtuals.own);
+    text(b"\n");
+    show_core(core);
+}
+
+fn event(kind: u8, member: u8, v: u32) -> Event {
+    Event { kind: kind, member: member, selector: 0, spare: 0, v: v, w: 0 }
+}
+
+fn main() {
+    show(b"unknown kind", board::apply(broken(), event(200, 0, 0)));
+    show(b"channel 6", board::apply(broken(), event(10, 6, 0)));
+    show(b"count read with an argument", board::apply(broken(), event(10, 0, 1)));
+    show(b"snapshot read, captures lost", board::apply(broken(), event(11, 0, 0)));
+    show(b"snapshot read, nothing lost", board::apply(broken(), event(11, 1, 0)));
+    show(b"count read", board::apply(broken(), event(10, 1, 0)));
+    show(b"mode write", board::apply(broken(), event(1, 0, 48)));
+    show(b"safe write with SWE 0", board::apply(broken(), event(15, 0, 1)));
+    show(b"status", board::apply(broken(), event(29, 0, 0)));
+    show(b"step", board::apply(broken(), event(0, 0, 0)));
+}

@@ -1,0 +1,117 @@
+-- Every event keeps a board in range, and only the answers 0 and 6 change it.
+-- Assumes nothing.
+use mathlib.Core.Path.{_≡_, refl, ap, sym, _∙_}
+use mathlib.Core.Bool.{Bool, true, not, cond, Bool·beq}
+use mathlib.Core.List.{List}
+use Prim.Native.Nat.{ℕ, _+_, _*_, _<_}
+use borrow.Author.Tests.{ltb-true, lt-ltb}
+use lib.Dec.{eqb, ltb}
+use lib.ListN.{set, length-set}
+use lib.Seq.{set-getD}
+use Rattle.counter.specs.Setters.{withLost}
+use Rattle.counter.specs.Repair.{noChannel}
+use Rattle.counter.specs.declared.Channel.{Channel}
+use Rattle.ports.specs.Pins.{pinAt, putPin, pinLevel}
+use Rattle.ports.specs.Virtuals.{virtualAt, putVirtual}
+use Rattle.calls.specs.Reply.{Reply, reply}
+use Rattle.calls.specs.Fields.{fits}
+use Rattle.calls.specs.declared.Event.{Event}
+use Rattle.board.specs.Inputs.{channelIn, neighbour, samplesOf, inputsOf, channelNext, allNext}
+use Rattle.board.specs.Step.{stepWith, stepped}
+use Rattle.board.specs.Respond.{Class, step, channel, pin, virtual, board, unknown, classOf, withChannels, withPins, withVirtuals, withCore, checked, respondBy, respondWith, respond}
+use Rattle.board.specs.Handed.{lostCleared}
+use Rattle.board.specs.declared.Board.{Board}
+use Rattle.board.specs.declared.Scene.{Scene}
+use Rattle.reach.specs.Range.{ChannelInRange, InRange}
+use Rattle.reach.proofs.Cases.{tested, taken}
+use Rattle.reach.proofs.Tables.{length-tab, getD-tab, set-keeps}
+use Rattle.reach.proofs.Sound.{Sound, refusal, done, put-back}
+use Rattle.reach.proofs.RangedStep.{samples-lt, advance-ranged}
+use Rattle.reach.proofs.RangedChannel.{channel-sound}
+use Rattle.reach.proofs.RangedPins.{pin-sound, pin-ranged, sensed-ranged, driven-ranged}
+use Rattle.reach.proofs.RangedPins as pins
+use Rattle.reach.proofs.RangedVirtuals as virtuals
+use Rattle.reach.proofs.RangedVirtuals.{virtual-sound}
+use Rattle.reach.proofs.RangedCore.{core-sound, core-ranged}
+
+-- ---- the step
+
+now-ranged : (s : Scene) (c mode route : ℕ) → samplesOf s c mode route < 16
+unfolding samplesOf
+now-ranged s c mode route = samples-lt _ _ _ _
+
+channel-ranged : (s : Scene) (cs : List Channel) (c : ℕ) → ChannelInRange (channelIn cs c) → ChannelInRange (channelNext s cs c)
+unfolding channelNext inputsOf
+channel-ranged s cs c r =
+    let me = channelIn cs c in
+    advance-ranged me r (inputsOf s c (channelIn cs (neighbour c) .carry) me) (now-ranged s c (me .mode) (me .route))
+
+stepped-ranged : (v w : ℕ) (b : Board) → InRange b → InRange (stepped v w b)
+unfolding stepped stepWith allNext
+stepped-ranged v w b r = record {
+  six = length-tab 6 _;
+  channels = λ c h. rw getD-tab (channel-ranged _ (b .channels) c (r .channels c h));
+  pins = driven-ranged _ (sensed-ranged (b .pins) (r .pins) pinLevel w) _ _;
+  virtuals = r .virtuals;
+  core = core-ranged (b .core) (r .core) _;
+}
+
+-- ---- the calls
+
+module _ (b : Board) (r : InRange b) where
+  set-ranged : (m : ℕ) (c : Channel) → ChannelInRange c → InRange (withChannels (set (b .channels) m c) b)
+  set-ranged m c p = record {
+    six = length-set (b .channels) m c ∙ r .six;
+    channels = λ j h. set-keeps ChannelInRange (b .channels) m c noChannel j (r .channels j h) p;
+    pins = r .pins;
+    virtuals = r .virtuals;
+    core = r .core;
+  }
+
+  set-same : (m : ℕ) (c : Channel) → c ≡ channelIn (b .channels) m → withChannels (set (b .channels) m c) b ≡ b
+  set-same m c h = ap (λ cs. withChannels cs b) (ap (set (b .channels) m) h ∙ set-getD (b .channels) m noChannel)
+
+  set-lost : (m : ℕ) (c : Channel) → m < 6 → c ≡ withLost 0 (channelIn (b .channels) m) → withChannels (set (b .channels) m c) b ≡ lostCleared m b
+  unfolding lostCleared
+  set-lost m c k h = ap (λ d. withChannels (set (b .channels) m d) b) h ∙ sym (taken _ _ (lt-ltb m 6 k))
+
+  module _ (e : Event) where
+    abbrev SoundEvent : Reply Board → Type 0
+    SoundEvent = Sound InRange (λ y. y ≡ b) (λ y. y ≡ lostCleared (e .member) b)
+
+    checked-sound : (n : ℕ) (x : Reply Board) → (e .member < n → fits e ≡ true → SoundEvent x) → SoundEvent (checked n e b x)
+    checked-sound n x s =
+        tested SoundEvent (ltb (e .member) n)
+        (λ h. tested SoundEvent (fits e) (s (ltb-true _ _ h)) (λ _. refusal 3 b refl r refl))
+        (λ _. refusal 1 b refl r refl)
+
+    by-class : (k : Class) → SoundEvent (respondBy stepped k b e)
+    unfolding respondBy
+    by-class step = tested SoundEvent (fits e) (λ _. done (stepped-ranged (e .v) (e .w) b r)) (λ _. refusal 3 b refl r refl)
+    by-class channel =
+        checked-sound 6 _ (λ m f.
+        put-back (λ c. withChannels (set (b .channels) (e .member) c) b) _
+        (channel-sound (channelIn (b .channels) (e .member)) (r .channels (e .member) m) _ e f)
+        (set-ranged (e .member)) (set-same (e .member)) (λ c. set-lost (e .member) c m))
+    by-class pin =
+        checked-sound 48 _ (λ m f.
+        put-back (λ q. withPins (putPin (e .member) q (b .pins)) b) _
+        (pin-sound (pinAt (b .pins) (e .member)) (pin-ranged (b .pins) (r .pins) (e .member) m) _ e f)
+        (λ q p. record { six = r .six; channels = r .channels; pins = pins.put-ranged (b .pins) (r .pins) (e .member) q p; virtuals = r .virtuals; core = r .core })
+        (λ q n. absurd n) (λ q n. absurd n))
+    by-class virtual =
+        checked-sound 6 _ (λ m f.
+        put-back (λ o. withVirtuals (putVirtual (e .member) o (b .virtuals)) b) _
+        (virtual-sound _ e (virtualAt (b .virtuals) (e .member)))
+        (λ o p. record { six = r .six; channels = r .channels; pins = r .pins; virtuals = virtuals.put-ranged (e .member) o (b .virtuals); core = r .core })
+        (λ o n. absurd n) (λ o n. absurd n))
+    by-class board =
+        checked-sound 1 _ (λ m f.
+        put-back (λ k. withCore k b) _ (core-sound (b .core) (r .core) e f)
+        (λ k p. record { six = r .six; channels = r .channels; pins = r .pins; virtuals = r .virtuals; core = p })
+        (λ k h. ap (λ x. withCore x b) h) (λ k n. absurd n))
+    by-class unknown = refusal 2 b refl r refl
+
+    pub respond-sound : SoundEvent (respond b e)
+    unfolding respond respondWith
+    respond-sound = by-class (classOf (e .kind))
