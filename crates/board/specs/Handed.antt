@@ -1,15 +1,13 @@
 -- Document 01, "In a board handed in": the entry point. A field outside its range counts as its reset value; an event answered 0 stores the
 -- board so; result 6 sets the lost count to 0 on the board handed in; every other result leaves that board as it is.
 -- Assumes nothing.
-use mathlib.Core.Bool.{Bool, cond}
-use mathlib.Core.List.{List}
+use mathlib.Core.Bool.{cond}
 use Prim.Native.Nat.{ℕ}
 use lib.Dec.{eqb, ltb}
 use lib.ListN.{set, replicate}
 use Rattle.words.specs.Table.{tab}
 use Rattle.counter.specs.Setters.{withLost}
 use Rattle.counter.specs.Repair.{repaired, resetChannel}
-use Rattle.counter.specs.declared.Channel.{Channel}
 use Rattle.ports.specs.Pins.{repairedPins, resetPins}
 use Rattle.ports.specs.Virtuals.{repairedVirtuals, resetVirtuals}
 use Rattle.control.specs.Whole.{repairedCore, resetCore}

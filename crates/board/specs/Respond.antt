@@ -1,6 +1,6 @@
 -- Document 01: every event on a board whose fields are in their ranges. The refusals 2, 1 and 3 are decided here, in this order; 4, 7, 6 and 5 by the calls.
 -- Assumes nothing.
-use mathlib.Core.Bool.{Bool, true, cond}
+use mathlib.Core.Bool.{cond}
 use mathlib.Core.List.{List}
 use Prim.Native.Nat.{ℕ}
 use lib.Dec.{eqb, ltb}

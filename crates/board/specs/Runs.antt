@@ -2,7 +2,6 @@
 -- Assumes nothing.
 use mathlib.Core.List.{List, [], _∷_}
 use Rattle.calls.specs.Reply.{Reply}
-use Rattle.calls.specs.declared.Answer.{Answer}
 
 module _ {S E : Type 0} (machine : S → E → Reply S) where
   -- the state after the last event

@@ -8,13 +8,11 @@ use Rattle.counter.specs.declared.Channel.{Channel}
 use Rattle.ports.specs.Pins.{pinLevel, sensedWith, driven}
 use Rattle.ports.specs.Virtuals.{virtualLevels}
 use Rattle.ports.specs.declared.Pins.{Pins}
-use Rattle.ports.specs.declared.Virtuals.{Virtuals}
 use Rattle.control.specs.Clock.{advanced, risesAt, ticks}
 use Rattle.control.specs.Watchdog.{watched}
 use Rattle.control.specs.Safety.{guarded}
 use Rattle.control.specs.declared.Clock.{Clock}
 use Rattle.control.specs.declared.Watchdog.{Watchdog}
-use Rattle.control.specs.declared.Safety.{Safety}
 use Rattle.control.specs.declared.Core.{Core}
 use Rattle.board.specs.Inputs.{extouts, allNext}
 use Rattle.board.specs.declared.Scene.{Scene}
@@ -34,7 +32,7 @@ sceneOf v outs clock levels virtuals =
       rises = risesAt (clock .prescaler);
     }
 
--- parts 3 and 4: the watchdog, then safemode
+-- parts 1, 3 and 4: the clock, the watchdog, then safemode
 unfoldable pub coreNext : Bool → Core → Core
 coreNext pin47 k =
     let dog : Watchdog = watched (k .watchdog) in

@@ -3,7 +3,6 @@ ghost use mathlib.Core.Path.{_≡_};
 ghost use Rattle.board.specs.Respond.{outcome};
 ghost use Rattle.board.specs.Handed.{resetBoard, repairedBoard, lostCleared, applied};
 ghost use Rattle.counter.specs.Repair.{repaired};
-
 use crate::Board;
 use crate::Outcome;
 use calls::Event;
@@ -32,7 +31,12 @@ impl Board {
             repair_channel(cs[4]),
             repair_channel(cs[5]),
         ];
-        Board { channels: sound, pins: pins.repair(), virtuals: virtuals.repair(), core: core.repair() }
+        Board {
+            channels: sound,
+            pins: pins.repair(),
+            virtuals: virtuals.repair(),
+            core: core.repair(),
+        }
     }
 
     // The lost count of a channel to 0.
@@ -59,9 +63,15 @@ pub fn apply(board: Board, event: Event) -> Outcome
         return r;
     }
     if answer.result == 6 {
-        return Outcome { board: board.clear_lost(event.member), answer: answer };
+        return Outcome {
+            board: board.clear_lost(event.member),
+            answer: answer,
+        };
     }
-    Outcome { board: board, answer: answer }
+    Outcome {
+        board: board,
+        answer: answer,
+    }
 }
 
 // A board at reset.
@@ -69,5 +79,10 @@ pub fn reset() -> Board
     ensures { λ r. ⌜ r ≡ resetBoard ⌝ }
 {
     let c = counter::reset();
-    Board { channels: [c; 6], pins: ports::reset_pins(), virtuals: ports::reset_virtuals(), core: control::reset() }
+    Board {
+        channels: [c; 6],
+        pins: ports::reset_pins(),
+        virtuals: ports::reset_virtuals(),
+        core: control::reset(),
+    }
 }

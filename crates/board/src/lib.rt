@@ -1,20 +1,16 @@
 // The board: six channels, 48 pins, six virtual outputs and the board's own part. `apply` is the
 // entry point: it takes every board and every event there is and answers as document 01 says.
-ghost use mathlib.Core.Path.{_≡_};
-ghost use Rattle.board.specs.Step.{stepped};
-ghost use Rattle.board.specs.Respond.{respond, outcome};
-ghost use Rattle.board.specs.Handed.{resetBoard, repairedBoard, applied};
+ghost use Rattle.board.specs.Respond.{respond};
 
 mod entry;
 mod respond;
 mod step;
 
-pub use entry::apply;
-pub use entry::reset;
-
 use calls::Answer;
 use control::Core;
 use counter::Channel;
+pub use entry::apply;
+pub use entry::reset;
 use ports::Pins;
 use ports::Virtuals;
 

@@ -3,7 +3,6 @@ ghost use mathlib.Core.Path.{_≡_};
 ghost use Rattle.calls.specs.Reply.{refuse};
 ghost use Rattle.board.specs.Respond.{step, channel, pin, virtual, board, respondBy, respond, outcome};
 ghost use Rattle.board.specs.Step.{stepped};
-
 use crate::Board;
 use crate::Outcome;
 use calls::Event;
@@ -12,14 +11,20 @@ impl Board {
     fn refuse(self, result: u32) -> Outcome
         ensures { λ r. ⌜ r ≡ outcome (refuse result self) ⌝ }
     {
-        Outcome { board: self, answer: calls::number(result, 0) }
+        Outcome {
+            board: self,
+            answer: calls::number(result, 0),
+        }
     }
 
     fn step_event(self, e: Event) -> Outcome
         ensures { λ r. ⌜ r ≡ outcome (respondBy stepped step self e) ⌝ }
     {
         if calls::fits(e) {
-            return Outcome { board: self.step(e.v, e.w), answer: calls::number(0, 0) };
+            return Outcome {
+                board: self.step(e.v, e.w),
+                answer: calls::number(0, 0),
+            };
         }
         self.refuse(3)
     }
@@ -37,7 +42,10 @@ impl Board {
             let next = r.channel;
             let answer = r.answer;
             self.channels[m] = next;
-            return Outcome { board: self, answer: answer };
+            return Outcome {
+                board: self,
+                answer: answer,
+            };
         }
         self.refuse(3)
     }
@@ -55,7 +63,10 @@ impl Board {
             let next = r.pin;
             let answer = r.answer;
             self.pins = pins.put(m, next);
-            return Outcome { board: self, answer: answer };
+            return Outcome {
+                board: self,
+                answer: answer,
+            };
         }
         self.refuse(3)
     }
@@ -73,7 +84,10 @@ impl Board {
             let next = r.output;
             let answer = r.answer;
             self.virtuals = outputs.put(m, next);
-            return Outcome { board: self, answer: answer };
+            return Outcome {
+                board: self,
+                answer: answer,
+            };
         }
         self.refuse(3)
     }
@@ -90,7 +104,10 @@ impl Board {
             let next = r.core;
             let answer = r.answer;
             self.core = next;
-            return Outcome { board: self, answer: answer };
+            return Outcome {
+                board: self,
+                answer: answer,
+            };
         }
         self.refuse(3)
     }

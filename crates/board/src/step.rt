@@ -1,12 +1,10 @@
 // A step, in the six parts of document 01.
 ghost use mathlib.Core.Path.{_≡_};
-ghost use mathlib.Core.Bool.{Bool};
-ghost use Prim.Native.Nat.{_<_, _+_, _*_, _^_, _/_};
+ghost use Prim.Native.Nat.{_<_, _+_, _*_, _/_};
 ghost use Rattle.words.specs.Bits.{bit};
 ghost use Rattle.counter.specs.Advance.{advance};
 ghost use Rattle.board.specs.Inputs.{extouts, indexOf, carriedBy, samplesOf, inputsOf, allNext};
 ghost use Rattle.board.specs.Step.{sceneOf, coreNext, stepped};
-
 use crate::Board;
 use crate::Scene;
 use control::Clock;
@@ -17,8 +15,12 @@ use counter::Channel;
 fn extouts(cs: [Channel; 6]) -> u64
     ensures { λ r. ⌜ r ≡ extouts cs ⌝ }
 {
-    let low = words::flag(cs[0].extout) + 2 * words::flag(cs[1].extout) + 4 * words::flag(cs[2].extout);
-    let high = words::flag(cs[3].extout) + 2 * words::flag(cs[4].extout) + 4 * words::flag(cs[5].extout);
+    let low = words::flag(cs[0].extout)
+        + 2 * words::flag(cs[1].extout)
+        + 4 * words::flag(cs[2].extout);
+    let high = words::flag(cs[3].extout)
+        + 2 * words::flag(cs[4].extout)
+        + 4 * words::flag(cs[5].extout);
     (low + 8 * high) as u64
 }
 
@@ -30,7 +32,11 @@ fn index_of(x: u32, ix: bool, outs: u64, ticks: u64) -> bool
     if x < 2 {
         ix != (x == 1)
     } else {
-        if x < 8 { words::bit(outs, (x - 2) as u64) } else { words::bit(ticks, (x - 8) as u64) }
+        if x < 8 {
+            words::bit(outs, (x - 2) as u64)
+        } else {
+            words::bit(ticks, (x - 8) as u64)
+        }
     }
 }
 
@@ -106,7 +112,11 @@ fn advance_core(k: Core, pin47: bool) -> Core
     let watchdog = k.watchdog;
     let safety = k.safety;
     let dog = watchdog.watch();
-    Core { clock: clock.advance(), watchdog: dog, safety: safety.guard(dog.expired, pin47) }
+    Core {
+        clock: clock.advance(),
+        watchdog: dog,
+        safety: safety.guard(dog.expired, pin47),
+    }
 }
 
 impl Board {
@@ -125,6 +135,11 @@ impl Board {
         let s = scene(v, extouts(old), clock, pins.level, virtuals);
         let next = advance_all(old, s);
         let driven = pins.drive(extouts(next), core.safety.safemode);
-        Board { channels: next, pins: driven, virtuals: outputs, core: core }
+        Board {
+            channels: next,
+            pins: driven,
+            virtuals: outputs,
+            core: core,
+        }
     }
 }

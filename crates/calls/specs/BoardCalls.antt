@@ -1,6 +1,6 @@
 -- Document 01, "One event", calls 22 to 29, each on the board's own part. The field checks are past.
 -- Assumes nothing.
-use mathlib.Core.Bool.{Bool, false, cond}
+use mathlib.Core.Bool.{false, cond}
 use Prim.Native.Nat.{ℕ, _+_, _*_}
 use lib.Dec.{eqb}
 use Rattle.words.specs.Bits.{flag}

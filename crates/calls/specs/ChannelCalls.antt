@@ -1,7 +1,6 @@
 -- Document 01, "One event", calls 1 to 12, each on the channel's own record. The field checks are past.
 -- Assumes nothing.
-use mathlib.Core.Bool.{Bool, false, cond}
-use mathlib.Core.List.{List}
+use mathlib.Core.Bool.{false, cond}
 use Prim.Native.Nat.{ℕ, _+_, _*_}
 use lib.Dec.{eqb, ltb}
 use lib.ListN.{getD, set}

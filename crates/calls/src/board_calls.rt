@@ -6,7 +6,6 @@ ghost use Rattle.control.specs.Safety.{withControl, withWrites, withSafemode};
 ghost use Rattle.control.specs.Whole.{withWatchdog, withSafety};
 ghost use Rattle.calls.specs.Reply.{coreReply, refuse, accept, tell};
 ghost use Rattle.calls.specs.BoardCalls.{intervalWrite, boardStatus, boardCall};
-
 use crate::CoreReply;
 use crate::Event;
 use control::Core;
@@ -16,13 +15,19 @@ use control::Watchdog;
 fn refuse(k: Core, result: u32) -> CoreReply
     ensures { λ r. ⌜ r ≡ coreReply (refuse result k) ⌝ }
 {
-    CoreReply { core: k, answer: crate::number(result, 0) }
+    CoreReply {
+        core: k,
+        answer: crate::number(result, 0),
+    }
 }
 
 fn tell(k: Core, value: u32) -> CoreReply
     ensures { λ r. ⌜ r ≡ coreReply (tell value k) ⌝ }
 {
-    CoreReply { core: k, answer: crate::number(0, value) }
+    CoreReply {
+        core: k,
+        answer: crate::number(0, value),
+    }
 }
 
 fn with_watchdog(k: Core, d: Watchdog) -> CoreReply
@@ -30,7 +35,10 @@ fn with_watchdog(k: Core, d: Watchdog) -> CoreReply
 {
     let mut n = k;
     n.watchdog = d;
-    CoreReply { core: n, answer: crate::number(0, 0) }
+    CoreReply {
+        core: n,
+        answer: crate::number(0, 0),
+    }
 }
 
 fn with_safety(k: Core, s: Safety) -> CoreReply
@@ -38,7 +46,10 @@ fn with_safety(k: Core, s: Safety) -> CoreReply
 {
     let mut n = k;
     n.safety = s;
-    CoreReply { core: n, answer: crate::number(0, 0) }
+    CoreReply {
+        core: n,
+        answer: crate::number(0, 0),
+    }
 }
 
 fn control_write(k: Core, v: u32) -> CoreReply

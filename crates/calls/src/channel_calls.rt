@@ -2,7 +2,6 @@
 ghost use mathlib.Core.Path.{_≡_};
 ghost use Rattle.calls.specs.Reply.{channelReply, refuse, accept, tell};
 ghost use Rattle.calls.specs.ChannelCalls.{modeWrite, preloadWrite, compareWrite, routeWrite, maskWrite, start, halt, snapshot, softPreload, countRead, snapshotRead, channelStatus, channelCall};
-
 use crate::Answer;
 use crate::ChannelReply;
 use crate::Event;
@@ -11,19 +10,28 @@ use counter::Channel;
 fn refuse(c: Channel, result: u32) -> ChannelReply
     ensures { λ r. ⌜ r ≡ channelReply (refuse result c) ⌝ }
 {
-    ChannelReply { channel: c, answer: crate::number(result, 0) }
+    ChannelReply {
+        channel: c,
+        answer: crate::number(result, 0),
+    }
 }
 
 fn accept(c: Channel) -> ChannelReply
     ensures { λ r. ⌜ r ≡ channelReply (accept c) ⌝ }
 {
-    ChannelReply { channel: c, answer: crate::number(0, 0) }
+    ChannelReply {
+        channel: c,
+        answer: crate::number(0, 0),
+    }
 }
 
 fn tell(c: Channel, value: u32) -> ChannelReply
     ensures { λ r. ⌜ r ≡ channelReply (tell value c) ⌝ }
 {
-    ChannelReply { channel: c, answer: crate::number(0, value) }
+    ChannelReply {
+        channel: c,
+        answer: crate::number(0, value),
+    }
 }
 
 fn mode_write(c: Channel, v: u32) -> ChannelReply
@@ -120,13 +128,24 @@ fn snapshot_read(c: Channel) -> ChannelReply
     if 0 < lost {
         let mut n = c;
         n.lost = 0;
-        return ChannelReply { channel: n, answer: crate::number(6, lost) };
+        return ChannelReply {
+            channel: n,
+            answer: crate::number(6, lost),
+        };
     }
     if c.held == 0 {
         return refuse(c, 5);
     }
-    let answer = Answer { result: 0, value: c.counts[0], timestamp: c.timestamps[0], reason: c.reasons[0] };
-    ChannelReply { channel: c.pop(), answer: answer }
+    let answer = Answer {
+        result: 0,
+        value: c.counts[0],
+        timestamp: c.timestamps[0],
+        reason: c.reasons[0],
+    };
+    ChannelReply {
+        channel: c.pop(),
+        answer: answer,
+    }
 }
 
 fn status(c: Channel) -> ChannelReply

@@ -2,13 +2,40 @@
 ghost use mathlib.Core.Path.{_≡_};
 ghost use mathlib.Core.Bool.{cond};
 ghost use Rattle.calls.specs.Fields.{limit, fits};
-
 use crate::Event;
 
 // V is below this, kind by kind.
 const LIMITS: [u64; 30] = [
-    262144, 268435456, 4294967296, 4294967296, 55, 512, 1, 1, 1, 1, 1, 1, 1, 7, 2, 2, 2, 1, 2, 2, 2, 1, 8, 2, 1,
-    4294967296, 2, 1, 1, 1,
+    262144,
+    268435456,
+    4294967296,
+    4294967296,
+    55,
+    512,
+    1,
+    1,
+    1,
+    1,
+    1,
+    1,
+    1,
+    7,
+    2,
+    2,
+    2,
+    1,
+    2,
+    2,
+    2,
+    1,
+    8,
+    2,
+    1,
+    4294967296,
+    2,
+    1,
+    1,
+    1,
 ];
 
 // The limit of V, 0 for an unknown kind.

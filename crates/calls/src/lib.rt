@@ -12,14 +12,13 @@ mod virtual_calls;
 
 pub use board_calls::board_call;
 pub use channel_calls::channel_call;
-pub use fields::fits;
-pub use pin_calls::pin_call;
-pub use virtual_calls::virtual_call;
-
 use control::Core;
 use counter::Channel;
+pub use fields::fits;
+pub use pin_calls::pin_call;
 use ports::Pin;
 use ports::Virtual;
+pub use virtual_calls::virtual_call;
 
 #[repr(C)]
 pub struct Event {
@@ -64,5 +63,10 @@ pub struct CoreReply {
 pub fn number(result: u32, value: u32) -> Answer
     ensures { λ r. ⌜ r ≡ number result value ⌝ }
 {
-    Answer { result: result, value: value, timestamp: 0, reason: 0 }
+    Answer {
+        result: result,
+        value: value,
+        timestamp: 0,
+        reason: 0,
+    }
 }

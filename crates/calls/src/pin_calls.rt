@@ -4,7 +4,6 @@ ghost use mathlib.Core.Bool.{cond};
 ghost use Rattle.words.specs.Bits.{flag};
 ghost use Rattle.calls.specs.Reply.{pinReply, accept, tell};
 ghost use Rattle.calls.specs.PinCalls.{withSource, withOwn, withSafeData, withSafeEnable, pinCall};
-
 use crate::Event;
 use crate::PinReply;
 use ports::Pin;
@@ -12,7 +11,10 @@ use ports::Pin;
 fn accept(p: Pin) -> PinReply
     ensures { λ r. ⌜ r ≡ pinReply (accept p) ⌝ }
 {
-    PinReply { pin: p, answer: crate::number(0, 0) }
+    PinReply {
+        pin: p,
+        answer: crate::number(0, 0),
+    }
 }
 
 fn source_write(p: Pin, v: u32) -> PinReply
@@ -56,7 +58,10 @@ fn safe_enable_write(p: Pin, writes: bool, v: bool) -> PinReply
 fn level_read(p: Pin) -> PinReply
     ensures { λ r. ⌜ r ≡ pinReply (tell (flag (p .level)) p) ⌝ }
 {
-    PinReply { pin: p, answer: crate::number(0, words::flag(p.level)) }
+    PinReply {
+        pin: p,
+        answer: crate::number(0, words::flag(p.level)),
+    }
 }
 
 // The call of an event on its pin; `writes` is SWE.

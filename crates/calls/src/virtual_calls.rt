@@ -4,7 +4,6 @@ ghost use mathlib.Core.Bool.{cond};
 ghost use Rattle.words.specs.Bits.{flag};
 ghost use Rattle.calls.specs.Reply.{virtualReply, accept, tell};
 ghost use Rattle.calls.specs.VirtualCalls.{withOwn, withSafeData, withSafeEnable, virtualCall};
-
 use crate::Event;
 use crate::VirtualReply;
 use ports::Virtual;
@@ -12,7 +11,10 @@ use ports::Virtual;
 fn accept(o: Virtual) -> VirtualReply
     ensures { λ r. ⌜ r ≡ virtualReply (accept o) ⌝ }
 {
-    VirtualReply { output: o, answer: crate::number(0, 0) }
+    VirtualReply {
+        output: o,
+        answer: crate::number(0, 0),
+    }
 }
 
 fn data_write(o: Virtual, v: bool) -> VirtualReply
@@ -48,7 +50,10 @@ fn safe_enable_write(o: Virtual, writes: bool, v: bool) -> VirtualReply
 fn data_read(o: Virtual) -> VirtualReply
     ensures { λ r. ⌜ r ≡ virtualReply (tell (flag (o .own)) o) ⌝ }
 {
-    VirtualReply { output: o, answer: crate::number(0, words::flag(o.own)) }
+    VirtualReply {
+        output: o,
+        answer: crate::number(0, words::flag(o.own)),
+    }
 }
 
 // The call of an event on its virtual output; `writes` is SWE.

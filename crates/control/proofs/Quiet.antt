@@ -1,13 +1,13 @@
 -- A prescaler that 50 does not divide has no tick.
 -- Assumes nothing.
-use mathlib.Core.Path.{_≡_, refl}
-use mathlib.Core.Bool.{Bool, false}
-use Prim.Native.Nat.{ℕ, _+_, _*_, _/_, _%_, _^_}
+use mathlib.Core.Path.{_≡_}
+use mathlib.Core.Bool.{false}
+use Prim.Native.Nat.{ℕ, _%_}
 use native.Mathlib.Omega.{arith}
 use borrow.Author.Tests.{ne-eqb}
 use lib.Dec.{eqb}
-use Rattle.words.specs.Bits.{flag, word}
-use Rattle.control.specs.Clock.{tick, ticks}
+use Rattle.words.specs.Bits.{word}
+use Rattle.control.specs.Clock.{ticks}
 
 module _ (p : ℕ) (h : p % 50 ≡ 0 → ⊥) where
   none : (n : ℕ) → (p % n ≡ 0 → p % 50 ≡ 0) → eqb (p % n) 0 ≡ false

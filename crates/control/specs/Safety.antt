@@ -1,7 +1,7 @@
 -- Document 01, "The step", part 4: safemode and what sets it.
 -- Assumes nothing.
-use mathlib.Core.Bool.{Bool, false, cond, _&&_, _||_, Bool·beq}
-use Prim.Native.Nat.{ℕ, _/_, _%_, _^_}
+use mathlib.Core.Bool.{Bool, cond, _&&_, _||_, Bool·beq}
+use Prim.Native.Nat.{ℕ, _%_}
 use lib.Dec.{eqb, ltb}
 use Rattle.words.specs.Bits.{bitAt}
 use Rattle.control.specs.declared.Safety.{Safety}

@@ -1,11 +1,9 @@
 -- The board's own part: clock, watchdog and safety together.
 -- Assumes nothing.
-use mathlib.Core.Bool.{Bool, false}
-use Prim.Native.Nat.{ℕ}
+use mathlib.Core.Bool.{false}
 use Rattle.control.specs.Clock.{repairedClock}
 use Rattle.control.specs.Watchdog.{repairedWatchdog}
 use Rattle.control.specs.Safety.{repairedSafety}
-use Rattle.control.specs.declared.Clock.{Clock}
 use Rattle.control.specs.declared.Watchdog.{Watchdog}
 use Rattle.control.specs.declared.Safety.{Safety}
 use Rattle.control.specs.declared.Core.{Core}

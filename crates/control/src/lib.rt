@@ -46,9 +46,15 @@ impl Clock {
     {
         let p = next_prescaler(self.prescaler);
         if p % 50 == 0 {
-            Clock { prescaler: p, timestamp: std::num::wrapping_add_u32(self.timestamp, 1) }
+            Clock {
+                prescaler: p,
+                timestamp: std::num::wrapping_add_u32(self.timestamp, 1),
+            }
         } else {
-            Clock { prescaler: p, timestamp: self.timestamp }
+            Clock {
+                prescaler: p,
+                timestamp: self.timestamp,
+            }
         }
     }
 
@@ -67,7 +73,11 @@ impl Clock {
 fn next_prescaler(p: u32) -> u32
     ensures { λ r. ⌜ r ≡ prescalerNext p ⌝ }
 {
-    if p < PRESCALE - 1 { p + 1 } else { (p % PRESCALE + 1) % PRESCALE }
+    if p < PRESCALE - 1 {
+        p + 1
+    } else {
+        (p % PRESCALE + 1) % PRESCALE
+    }
 }
 
 // The timestamp rises in a step with this prescaler.
@@ -144,7 +154,9 @@ impl Safety {
         ensures { λ r. ⌜ r ≡ guarded expired pin47 self ⌝ }
     {
         let c = self.control;
-        self.safemode = self.safemode | ((c / 4 % 2 == 1) & expired) | ((c % 2 == 1) & (pin47 == (c / 2 % 2 == 1)));
+        self.safemode = self.safemode
+            | ((c / 4 % 2 == 1) & expired)
+            | ((c % 2 == 1) & (pin47 == (c / 2 % 2 == 1)));
         self
     }
 
@@ -167,7 +179,11 @@ impl Core {
         let clock = self.clock;
         let watchdog = self.watchdog;
         let safety = self.safety;
-        Core { clock: clock.repair(), watchdog: watchdog.repair(), safety: safety.repair() }
+        Core {
+            clock: clock.repair(),
+            watchdog: watchdog.repair(),
+            safety: safety.repair(),
+        }
     }
 }
 
@@ -176,9 +192,21 @@ pub fn reset() -> Core
     ensures { λ r. ⌜ r ≡ resetCore ⌝ }
 {
     Core {
-        clock: Clock { prescaler: 0, timestamp: 0 },
-        watchdog: Watchdog { interval: 50_000_000, rest: 0, enabled: false, expired: false },
-        safety: Safety { control: 0, writes: false, safemode: false },
+        clock: Clock {
+            prescaler: 0,
+            timestamp: 0,
+        },
+        watchdog: Watchdog {
+            interval: 50_000_000,
+            rest: 0,
+            enabled: false,
+            expired: false,
+        },
+        safety: Safety {
+            control: 0,
+            writes: false,
+            safemode: false,
+        },
     }
 }
 

@@ -1,15 +1,15 @@
 -- Document 01, "The step", part 5: one channel takes its whole record and hands back the next one. The stages stand in the paper's order.
 -- Assumes nothing.
-use mathlib.Core.Bool.{Bool, true, false, not, cond, _&&_, _||_, Bool·beq}
-use Prim.Native.Nat.{ℕ, _+_, _*_, _/_, _%_, _^_}
+use mathlib.Core.Bool.{Bool, false, not, cond, _&&_, _||_, Bool·beq}
+use Prim.Native.Nat.{ℕ, _+_, _*_, _%_}
 use lib.Dec.{eqb, ltb}
 use lib.ListN.{getD}
 use lib.IntN.{ℤ, pos}
 use Rattle.words.specs.Bits.{bit, flag, word}
-use Rattle.counter.specs.Mode.{K, TD, TE, TP, OP, OM, BP, UD, IM}
+use Rattle.counter.specs.Mode.{K, TD, TE, TP, OP, OM, UD, IM}
 use Rattle.counter.specs.Quadrature.{index, extin, bothChanged}
 use Rattle.counter.specs.Difference.{isUp, isDown, clocked, reversed, moved, carryOf}
-use Rattle.counter.specs.Preload.{selected, allowed, armedByLoad}
+use Rattle.counter.specs.Preload.{selected, allowed, flipped, armedByLoad}
 use Rattle.counter.specs.Setters.{withStep}
 use Rattle.counter.specs.Queue.{captured}
 use Rattle.counter.specs.declared.Channel.{Channel}
@@ -131,13 +131,13 @@ finished now r d =
     let caught : ℕ = caughtOf (r .mode) (r .mask) m0 m1 zero (r .kept) now in
     let loads : Bool = preloads (r .mode) (asksPreload (r .mode) m0 m1 zero (r .kept) now) n now in
     let count : ℕ = cond loads (r .load) n in
-    let second : Bool = not (Bool·beq (r .second) (loads && BP (r .mode))) in
+    let second : Bool = flipped (r .mode) loads (r .second) in
     record {
       count = count;
       seen = n;
       caught = caught;
       carry = carryOf (r .count) d;
-      armed = armedPastZero (r .mode) armed zero || (loads && eqb (TE (r .mode)) 2);
+      armed = armedByLoad (r .mode) loads (armedPastZero (r .mode) armed zero);
       second = second;
       extout = output (r .mode) (not (eqb (caught % 4) 0)) second count;
     }

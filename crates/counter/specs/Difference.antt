@@ -1,11 +1,11 @@
 -- Document 01, "A running channel": the difference d, what it makes of the count, and the carry.
 -- Assumes nothing.
-use mathlib.Core.Bool.{Bool, not, cond, _&&_, _||_}
+use mathlib.Core.Bool.{Bool, not, cond, _&&_}
 use Prim.Native.Nat.{ℕ, _+_, _-_, _%_, _^_}
 use lib.Dec.{eqb, ltb}
 use lib.Signed.{ltZ}
 use lib.IntN.{ℤ, pos, negsuc, negℤ}
-use Rattle.counter.specs.Quadrature.{lineA, lineB, quadrature, keeps}
+use Rattle.counter.specs.Quadrature.{lineA, quadrature, keeps}
 
 abbrev pub isUp : ℤ → Bool
 isUp d = ltZ (pos 0) d

@@ -1,8 +1,8 @@
 -- Document 01, "Mode word": the fields of the word, and which words are refused.
 -- Assumes nothing.
-use mathlib.Core.Bool.{Bool, not, _&&_}
-use Prim.Native.Nat.{ℕ, _+_, _*_, _/_, _%_, _^_}
-use lib.Dec.{eqb, ltb}
+use mathlib.Core.Bool.{Bool, _&&_}
+use Prim.Native.Nat.{ℕ, _/_, _%_, _^_}
+use lib.Dec.{ltb}
 use Rattle.words.specs.Bits.{bitAt}
 
 -- bits 0-3: where the index comes from

@@ -1,6 +1,6 @@
 -- Document 01, "A queue holds sixteen captures": a capture, and its reading by call 11.
 -- Assumes nothing.
-use mathlib.Core.Bool.{Bool, cond}
+use mathlib.Core.Bool.{cond}
 use mathlib.Core.List.{List, [], _∷_, _++_}
 use Prim.Native.Nat.{ℕ, suc, _+_, _-_, _^_}
 use lib.Dec.{ltb}

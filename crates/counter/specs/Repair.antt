@@ -1,8 +1,8 @@
 -- Document 01, "In a board handed in": the range of each field of a channel, and the value that counts outside it.
 -- Assumes nothing.
-use mathlib.Core.Bool.{Bool, false, cond, _||_}
+use mathlib.Core.Bool.{false, cond, _||_}
 use mathlib.Core.List.{List, []}
-use Prim.Native.Nat.{ℕ, _/_, _%_, _^_}
+use Prim.Native.Nat.{ℕ}
 use lib.Dec.{ltb}
 use lib.ListN.{getD, replicate}
 use lib.Signed.{ltZ}

@@ -24,11 +24,7 @@ pub fn is_down(d: i32) -> bool
 fn sign(d: i32) -> i32
     ensures { λ r. ⌜ r ≡ sign d ⌝ }
 {
-    if 0 < d {
-        1
-    } else {
-        if d < 0 { -1 } else { 0 }
-    }
+    if 0 < d { 1 } else { if d < 0 { -1 } else { 0 } }
 }
 
 fn unit(b: bool) -> i32
@@ -62,7 +58,10 @@ pub fn clocked(k: u32, before: u32, now: u32, rises: bool, carried: i32) -> i32
         2 => unit(rises),
         3 => 1,
         4 => sign(carried),
-        _ => gate(crate::quadrature::keeps(k, before, now), turned(before, now)),
+        _ => gate(
+            crate::quadrature::keeps(k, before, now),
+            turned(before, now),
+        ),
     }
 }
 
@@ -81,7 +80,11 @@ pub fn moved(n: u32, d: i32) -> u32
     if is_up(d) {
         std::num::wrapping_add_u32(n, 1)
     } else {
-        if is_down(d) { std::num::wrapping_sub_u32(n, 1) } else { n }
+        if is_down(d) {
+            std::num::wrapping_sub_u32(n, 1)
+        } else {
+            n
+        }
     }
 }
 

@@ -10,7 +10,7 @@ ghost use Rattle.counter.specs.Setters.{withRun};
 ghost use Rattle.counter.specs.Queue.{captured, popped, shifted};
 ghost use Rattle.counter.specs.Preload.{preloaded, started, selected};
 ghost use Rattle.counter.specs.Advance.{advance, inputs, settled, nextOf};
-ghost use Rattle.counter.specs.Repair.{below, inCarry, inReasons, repaired, resetChannel};
+ghost use Rattle.counter.specs.Repair.{below, inReasons, repaired, resetChannel};
 
 mod difference;
 pub mod mode;
@@ -97,12 +97,13 @@ impl Channel {
     pub fn preload(mut self) -> Channel
         ensures { λ r. ⌜ r ≡ preloaded self ⌝ }
     {
-        let load = self.selected();
-        if mode::allows_preload(self.mode, self.count) {
-            self.count = load;
-            self.second = self.second != (self.mode / 2097152 % 2 == 1);
-            self.armed = self.armed | (self.mode / 512 % 4 == 2);
-        }
+        let loads = mode::allows_preload(self.mode, self.count);
+        let count = stages::pick(loads, self.selected(), self.count);
+        let second = mode::flipped(self.mode, loads, self.second);
+        let armed = mode::armed_by_load(self.mode, loads, self.armed);
+        self.count = count;
+        self.second = second;
+        self.armed = armed;
         self
     }
 
@@ -110,7 +111,11 @@ impl Channel {
     fn selected(self) -> u32
         ensures { λ r. ⌜ r ≡ selected self ⌝ }
     {
-        if self.second { self.preloads[1] } else { self.preloads[0] }
+        if self.second {
+            self.preloads[1]
+        } else {
+            self.preloads[0]
+        }
     }
 
     // A halted channel runs, armed where TE is 0.
@@ -129,7 +134,11 @@ impl Channel {
         if self.running {
             return self;
         }
-        if self.mode / 16777216 % 2 == 1 { self.begin().preload() } else { self.begin() }
+        if self.mode / 16777216 % 2 == 1 {
+            self.begin().preload()
+        } else {
+            self.begin()
+        }
     }
 
     // What a step makes of the small fields.
@@ -139,8 +148,18 @@ impl Channel {
         let load = self.selected();
         if self.running {
             stages::live(
-                self.mode, self.mask, load, self.compares[0], self.compares[1], self.count, self.armed, self.second,
-                self.kept, now, carried, rises,
+                self.mode,
+                self.mask,
+                load,
+                self.compares[0],
+                self.compares[1],
+                self.count,
+                self.armed,
+                self.second,
+                self.kept,
+                now,
+                carried,
+                rises,
             )
         } else {
             stages::resting(self.mode, self.count, self.armed, self.second)
@@ -206,7 +225,24 @@ fn less_one(n: u32) -> u32
 fn shift(a: [u32; 16]) -> [u32; 16]
     ensures { λ r. ⌜ r ≡ shifted a ⌝ }
 {
-    [a[1], a[2], a[3], a[4], a[5], a[6], a[7], a[8], a[9], a[10], a[11], a[12], a[13], a[14], a[15], 0]
+    [
+        a[1],
+        a[2],
+        a[3],
+        a[4],
+        a[5],
+        a[6],
+        a[7],
+        a[8],
+        a[9],
+        a[10],
+        a[11],
+        a[12],
+        a[13],
+        a[14],
+        a[15],
+        0,
+    ]
 }
 
 fn in_reason(r: u32) -> u32
@@ -220,9 +256,22 @@ fn in_reasons(a: [u32; 16]) -> [u32; 16]
     ensures { λ r. ⌜ r ≡ inReasons a ⌝ }
 {
     [
-        in_reason(a[0]), in_reason(a[1]), in_reason(a[2]), in_reason(a[3]), in_reason(a[4]), in_reason(a[5]),
-        in_reason(a[6]), in_reason(a[7]), in_reason(a[8]), in_reason(a[9]), in_reason(a[10]), in_reason(a[11]),
-        in_reason(a[12]), in_reason(a[13]), in_reason(a[14]), in_reason(a[15]),
+        in_reason(a[0]),
+        in_reason(a[1]),
+        in_reason(a[2]),
+        in_reason(a[3]),
+        in_reason(a[4]),
+        in_reason(a[5]),
+        in_reason(a[6]),
+        in_reason(a[7]),
+        in_reason(a[8]),
+        in_reason(a[9]),
+        in_reason(a[10]),
+        in_reason(a[11]),
+        in_reason(a[12]),
+        in_reason(a[13]),
+        in_reason(a[14]),
+        in_reason(a[15]),
     ]
 }
 

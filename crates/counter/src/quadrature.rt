@@ -1,7 +1,6 @@
 // The quadrature clocks.
 ghost use mathlib.Core.Path.{_≡_};
-ghost use Prim.Native.Nat.{_<_, _≤_, _/_, _%_};
-ghost use lib.Signed.{mag};
+ghost use Prim.Native.Nat.{_<_, _/_, _%_};
 ghost use Rattle.counter.specs.Quadrature.{quadrature, keeps, bothChanged};
 
 // The sixteen transitions, at 4 times the earlier A + 2 B and the present one.

@@ -1,11 +1,9 @@
 // The stages of a channel's step, in the order of document 01, on the fields that they read.
 ghost use mathlib.Core.Path.{_≡_};
-ghost use mathlib.Core.Bool.{cond, not};
+ghost use mathlib.Core.Bool.{cond};
 ghost use Prim.Native.Nat.{_+_, _*_, _<_};
-ghost use lib.IntN.{pos};
 ghost use Rattle.counter.specs.Difference.{moved};
-ghost use Rattle.counter.specs.Advance.{armedByEdge, counts, difference, matchReasons, edgeReasons, errs, masked, caughtOf, asksPreload, preloads, output, finished, live, resting, inputs, registersOf};
-
+ghost use Rattle.counter.specs.Advance.{armedByEdge, counts, difference, matchReasons, edgeReasons, errs, masked, caughtOf, asksPreload, preloads, output, finished, live, resting, registersOf};
 use crate::Next;
 
 // Armed after the index's edge.
@@ -14,7 +12,8 @@ fn armed_by_edge(mode: u32, armed: bool, kept: u32, now: u32) -> bool
 {
     let before = kept / 4 % 2 == 1;
     let high = now / 4 % 2 == 1;
-    ((mode / 512 % 4 == 1) & (!before & high)) | (armed & !((mode / 128 % 4 == 1) & (before & !high)))
+    ((mode / 512 % 4 == 1) & (!before & high))
+        | (armed & !((mode / 128 % 4 == 1) & (before & !high)))
 }
 
 // The difference is counted.
@@ -87,7 +86,9 @@ fn asks_preload(mode: u32, m0: bool, m1: bool, zero: bool, kept: u32, now: u32) 
 fn preloads(mode: u32, asked: bool, count: u32, now: u32) -> bool
     ensures { λ r. ⌜ r ≡ preloads mode asked count now ⌝ }
 {
-    asked & (!(mode / 33554432 % 4 == 2) | (now / 8 % 2 == 1)) & crate::mode::allows_preload(mode, count)
+    asked
+        & (!(mode / 33554432 % 4 == 2) | (now / 8 % 2 == 1))
+        & crate::mode::allows_preload(mode, count)
 }
 
 // ExtOut by OM and OP.
@@ -95,7 +96,10 @@ fn output(mode: u32, pulse: bool, second: bool, count: u32) -> bool
     ensures { λ r. ⌜ r ≡ output mode pulse second count ⌝ }
 {
     let shown = mode / 262144 % 8;
-    let high = ((shown == 1) & pulse) | ((shown == 2) & second) | ((shown == 3) & (count != 0)) | ((shown == 4) & (count == 0));
+    let high = ((shown == 1) & pulse)
+        | ((shown == 2) & second)
+        | ((shown == 3) & (count != 0))
+        | ((shown == 4) & (count == 0));
     high != (mode / 131072 % 2 == 1)
 }
 
@@ -117,7 +121,19 @@ fn caught(mode: u32, mask: u32, m0: bool, m1: bool, zero: bool, kept: u32, now: 
 }
 
 // From the difference on: the count, the events, the capture's reasons, the preload, ExtOut.
-fn finish(mode: u32, mask: u32, load: u32, compare0: u32, compare1: u32, count: u32, armed: bool, second: bool, kept: u32, now: u32, d: i32) -> Next
+fn finish(
+    mode: u32,
+    mask: u32,
+    load: u32,
+    compare0: u32,
+    compare1: u32,
+    count: u32,
+    armed: bool,
+    second: bool,
+    kept: u32,
+    now: u32,
+    d: i32,
+) -> Next
     ensures { λ r. ⌜ r ≡ finished now (registersOf mode mask load compare0 compare1 count armed second kept) d ⌝ }
 {
     let n = crate::difference::moved(count, d);
@@ -128,25 +144,50 @@ fn finish(mode: u32, mask: u32, load: u32, compare0: u32, compare1: u32, count: 
     let reasons = caught(mode, mask, m0, m1, zero, kept, now);
     let loads = preloads(mode, asks_preload(mode, m0, m1, zero, kept, now), n, now);
     let last = pick(loads, load, n);
-    let other = second != (loads & (mode / 2097152 % 2 == 1));
+    let other = crate::mode::flipped(mode, loads, second);
     let still = armed_by_edge(mode, armed, kept, now) & !(zero & (mode / 128 % 4 == 2));
     Next {
         count: last,
         seen: n,
         caught: reasons,
         carry: crate::difference::carry_of(count, d),
-        armed: still | (loads & (mode / 512 % 4 == 2)),
+        armed: crate::mode::armed_by_load(mode, loads, still),
         second: other,
         extout: output(mode, reasons % 4 != 0, other, last),
     }
 }
 
 // The step of a running channel.
-pub fn live(mode: u32, mask: u32, load: u32, compare0: u32, compare1: u32, count: u32, armed: bool, second: bool, kept: u32, now: u32, carried: i32, rises: bool) -> Next
+pub fn live(
+    mode: u32,
+    mask: u32,
+    load: u32,
+    compare0: u32,
+    compare1: u32,
+    count: u32,
+    armed: bool,
+    second: bool,
+    kept: u32,
+    now: u32,
+    carried: i32,
+    rises: bool,
+) -> Next
     ensures { λ r. ⌜ r ≡ live now carried rises (registersOf mode mask load compare0 compare1 count armed second kept) ⌝ }
 {
     let d = difference(mode, armed, kept, now, carried, rises);
-    finish(mode, mask, load, compare0, compare1, count, armed, second, kept, now, d)
+    finish(
+        mode,
+        mask,
+        load,
+        compare0,
+        compare1,
+        count,
+        armed,
+        second,
+        kept,
+        now,
+        d,
+    )
 }
 
 // The step of a halted channel.

@@ -13,6 +13,7 @@ use ports::Pins;
 use ports::Virtuals;
 
 const ALL: u32 = 4294967295;
+
 const EVERY: u64 = 18446744073709551615;
 
 fn broken_channel(lost: u32) -> Channel {
@@ -39,9 +40,21 @@ fn broken_channel(lost: u32) -> Channel {
 
 fn broken_core() -> Core {
     Core {
-        clock: Clock { prescaler: ALL, timestamp: ALL },
-        watchdog: Watchdog { interval: 0, rest: ALL, enabled: false, expired: true },
-        safety: Safety { control: ALL, writes: false, safemode: true },
+        clock: Clock {
+            prescaler: ALL,
+            timestamp: ALL,
+        },
+        watchdog: Watchdog {
+            interval: 0,
+            rest: ALL,
+            enabled: false,
+            expired: true,
+        },
+        safety: Safety {
+            control: ALL,
+            writes: false,
+            safemode: true,
+        },
     }
 }
 
@@ -61,7 +74,11 @@ fn broken() -> Board {
             source1: EVERY,
             source2: EVERY,
         },
-        virtuals: Virtuals { own: EVERY, safedata: EVERY, safeenable: EVERY },
+        virtuals: Virtuals {
+            own: EVERY,
+            safedata: EVERY,
+            safeenable: EVERY,
+        },
         core: broken_core(),
     }
 }
@@ -140,18 +157,37 @@ fn show(name: &[u8], o: Outcome) {
 }
 
 fn event(kind: u8, member: u8, v: u32) -> Event {
-    Event { kind: kind, member: member, selector: 0, spare: 0, v: v, w: 0 }
+    Event {
+        kind: kind,
+        member: member,
+        selector: 0,
+        spare: 0,
+        v: v,
+        w: 0,
+    }
 }
 
 fn main() {
     show(b"unknown kind", board::apply(broken(), event(200, 0, 0)));
     show(b"channel 6", board::apply(broken(), event(10, 6, 0)));
-    show(b"count read with an argument", board::apply(broken(), event(10, 0, 1)));
-    show(b"snapshot read, captures lost", board::apply(broken(), event(11, 0, 0)));
-    show(b"snapshot read, nothing lost", board::apply(broken(), event(11, 1, 0)));
+    show(
+        b"count read with an argument",
+        board::apply(broken(), event(10, 0, 1)),
+    );
+    show(
+        b"snapshot read, captures lost",
+        board::apply(broken(), event(11, 0, 0)),
+    );
+    show(
+        b"snapshot read, nothing lost",
+        board::apply(broken(), event(11, 1, 0)),
+    );
     show(b"count read", board::apply(broken(), event(10, 1, 0)));
     show(b"mode write", board::apply(broken(), event(1, 0, 48)));
-    show(b"safe write with SWE 0", board::apply(broken(), event(15, 0, 1)));
+    show(
+        b"safe write with SWE 0",
+        board::apply(broken(), event(15, 0, 1)),
+    );
     show(b"status", board::apply(broken(), event(29, 0, 0)));
     show(b"step", board::apply(broken(), event(0, 0, 0)));
 }

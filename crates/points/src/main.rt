@@ -5,7 +5,6 @@
 // `ok` or the number of answers that differ; for each of these a line tells what came.
 ghost use Prim.Native.Nat.{_<_, _≤_};
 ghost use lib.ListN.{length};
-
 use board::Board;
 use calls::Answer;
 use calls::Event;
@@ -69,12 +68,18 @@ fn number_at(text: &[u8], at: usize) -> Number
     while i < text.len() {
         let b = text[i];
         if (b < b'0') | (b'9' < b) {
-            return Number { value: value, next: i };
+            return Number {
+                value: value,
+                next: i,
+            };
         }
         value = value % 1_000_000_000_000_000_000 * 10 + wide(b) % 16;
         i += 1;
     }
-    Number { value: value, next: i }
+    Number {
+        value: value,
+        next: i,
+    }
 }
 
 fn wide(b: u8) -> u64 {
@@ -126,7 +131,10 @@ fn row_at(text: &[u8], at: usize) -> Row
 }
 
 fn same(a: Answer, b: Answer) -> bool {
-    (a.result == b.result) & (a.value == b.value) & (a.timestamp == b.timestamp) & (a.reason == b.reason)
+    (a.result == b.result)
+        & (a.value == b.value)
+        & (a.timestamp == b.timestamp)
+        & (a.reason == b.reason)
 }
 
 fn put(n: u64) {
@@ -164,7 +172,11 @@ fn run_row(t: Tally, row: Row) -> Tally {
         }
         i += 1;
     }
-    Tally { board: board, wrong: wrong, named: t.named }
+    Tally {
+        board: board,
+        wrong: wrong,
+        named: t.named,
+    }
 }
 
 // The end of a name's line, once its rows have been run.
@@ -190,7 +202,11 @@ fn run_line(t: Tally, text: &[u8], at: usize, next: usize) -> Tally
     if b == b'=' {
         tell(t.named, t.wrong);
         io::write_all(STDOUT_FILENO, &text[at..next - 1]);
-        return Tally { board: board::reset(), wrong: 0, named: true };
+        return Tally {
+            board: board::reset(),
+            wrong: 0,
+            named: true,
+        };
     }
     if (b < b'0') | (b'9' < b) {
         return t;
@@ -200,7 +216,11 @@ fn run_line(t: Tally, text: &[u8], at: usize, next: usize) -> Tally
 }
 
 fn run(text: &[u8]) {
-    let mut t = Tally { board: board::reset(), wrong: 0, named: false };
+    let mut t = Tally {
+        board: board::reset(),
+        wrong: 0,
+        named: false,
+    };
     let mut at: usize = 0;
     while at < text.len() {
         let next = line_end(text, at);

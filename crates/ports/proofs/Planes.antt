@@ -2,9 +2,9 @@
 -- Assumes nothing.
 use mathlib.Core.Path.{_≡_, refl}
 use mathlib.Core.Bool.{Bool, true, false, cond, not, _&&_}
-use Prim.Native.Nat.{ℕ, _+_, _*_}
+use Prim.Native.Nat.{ℕ}
 use lib.Dec.{ltb}
-use Rattle.words.specs.Bits.{bit, flag}
+use Rattle.words.specs.Bits.{bit}
 use Rattle.ports.specs.Pins.{number, sourced}
 
 -- the choice by the three planes is the choice by the source number

@@ -10,6 +10,7 @@ ghost use Rattle.ports.specs.Virtuals.{virtualAt, putVirtual, putVirtual
 
 // The number of pins, and of virtual outputs.
 pub const PINS: u64 = 48;
+
 pub const VIRTUALS: u64 = 6;
 
 // One pin.
@@ -66,13 +67,21 @@ fn sources(own: u64, s0: u64, s1: u64, s2: u64, outs: u64) -> u64
 {
     let low = words::select(
         s1,
-        words::select(s0, words::all(words::bit(outs, 2)), words::all(words::bit(outs, 1))),
+        words::select(
+            s0,
+            words::all(words::bit(outs, 2)),
+            words::all(words::bit(outs, 1)),
+        ),
         words::select(s0, words::all(words::bit(outs, 0)), own),
     );
     let high = words::select(
         s1,
         words::select(s0, own, words::all(words::bit(outs, 5))),
-        words::select(s0, words::all(words::bit(outs, 4)), words::all(words::bit(outs, 3))),
+        words::select(
+            s0,
+            words::all(words::bit(outs, 4)),
+            words::all(words::bit(outs, 3)),
+        ),
     );
     words::select(s2, high, low)
 }
@@ -81,7 +90,11 @@ fn sources(own: u64, s0: u64, s1: u64, s2: u64, outs: u64) -> u64
 fn guarded(base: u64, safemode: bool, safedata: u64, safeenable: u64) -> u64
     ensures { λ r. ⌜ r ≡ word 48 (λ p. cond (safemode && bit safeenable p) (bit safedata p) (bit base p)) ⌝ }
 {
-    words::select(words::both(words::all(safemode), safeenable), safedata, base)
+    words::select(
+        words::both(words::all(safemode), safeenable),
+        safedata,
+        base,
+    )
 }
 
 // A plane of the source numbers without the pins whose number is 7.
@@ -98,7 +111,11 @@ impl Pins {
         ensures { λ r. ⌜ r ≡ pinAt self p ⌝ }
     {
         Pin {
-            source: number(words::bit(self.source0, p), words::bit(self.source1, p), words::bit(self.source2, p)),
+            source: number(
+                words::bit(self.source0, p),
+                words::bit(self.source1, p),
+                words::bit(self.source2, p),
+            ),
             own: words::bit(self.own, p),
             safedata: words::bit(self.safedata, p),
             safeenable: words::bit(self.safeenable, p),
@@ -238,7 +255,11 @@ impl Virtuals {
 pub fn reset_virtuals() -> Virtuals
     ensures { λ r. ⌜ r ≡ resetVirtuals ⌝ }
 {
-    Virtuals { own: 0, safedata: 0, safeenable: 63 }
+    Virtuals {
+        own: 0,
+        safedata: 0,
+        safeenable: 63,
+    }
 }
 
 // The level that an ExtIn route names.
@@ -248,6 +269,10 @@ pub fn route_level(levels: u64, virtuals: u64, r: u64) -> bool
     if r < PINS {
         words::bit(levels, r)
     } else {
-        if r < 54 { words::bit(virtuals, r - PINS) } else { false }
+        if r < 54 {
+            words::bit(virtuals, r - PINS)
+        } else {
+            false
+        }
     }
 }

@@ -16,14 +16,9 @@ either P t h k = tested P t (λ e. h) (λ e. k)
 pub taken : {A : Type 0} {t : Bool} (x y : A) → t ≡ true → cond t x y ≡ x
 taken x y h = rw h
 
-pub and-first : (s t : Bool) → (s && t) ≡ true → s ≡ true
-and-first true t h = refl
-and-first false t h = h
-
-pub and-second : (s t : Bool) → (s && t) ≡ true → t ≡ true
-and-second true t h = h
-and-second false true h = refl
-and-second false false h = h
+pub and-true : (s t : Bool) → t ≡ true → (s && t) ≡ s
+and-true true t h = h
+and-true false t h = refl
 
 -- a test that is asked only under another
 pub asked : (s t : Bool) → (not s || t) ≡ true → s ≡ true → t ≡ true

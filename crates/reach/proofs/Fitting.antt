@@ -1,7 +1,7 @@
 -- What an event whose fields fit its kind promises of V.
 -- Assumes nothing.
 use mathlib.Core.Path.{_≡_}
-use mathlib.Core.Bool.{Bool, true, cond, not, _&&_, _||_}
+use mathlib.Core.Bool.{Bool, true, cond, not, _&&_, _||_, and-eq-true-iff}
 use Prim.Native.Nat.{ℕ, _<_, _^_}
 use native.Mathlib.Omega.{arith}
 use borrow.Author.Tests.{ltb-true, eqb-true, eqb-false, not-true}
@@ -9,13 +9,14 @@ use lib.Dec.{eqb, ltb}
 use Rattle.counter.specs.Mode.{goodMode}
 use Rattle.calls.specs.Fields.{limit, fits}
 use Rattle.calls.specs.declared.Event.{Event}
-use Rattle.reach.proofs.Cases.{and-first, and-second, asked}
+use Rattle.reach.proofs.Cases.{asked}
 
 parts : (s l m i n : Bool) → (s && l && m && i && n) ≡ true → (l ≡ true) × (m ≡ true) × (i ≡ true)
 parts s l m i n h =
-    let interval : (s && l && m && i) ≡ true = and-first (s && l && m && i) n h in
-    let mode : (s && l && m) ≡ true = and-first (s && l && m) i interval in
-    (and-second s l (and-first (s && l) m mode), and-second (s && l) m mode, and-second (s && l && m) i interval)
+    let four = and-eq-true-iff (s && l && m && i) n .0 h .0 in
+    let three = and-eq-true-iff (s && l && m) i .0 four in
+    let two = and-eq-true-iff (s && l) m .0 (three .0) in
+    (and-eq-true-iff s l .0 (two .0) .1, two .1, three .1)
 
 module _ (e : Event) (f : fits e ≡ true) where
   -- the tests of V's limit, of the mode word and of the interval

@@ -9,3 +9,6 @@ pub mod RangedPins
 pub mod RangedVirtuals
 pub mod RangedCore
 pub mod RangedBoard
+pub mod Repaired
+pub mod Entry
+pub mod Reach

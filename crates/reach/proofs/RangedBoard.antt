@@ -1,22 +1,24 @@
 -- Every event keeps a board in range, and only the answers 0 and 6 change it.
 -- Assumes nothing.
 use mathlib.Core.Path.{_≡_, refl, ap, sym, _∙_}
-use mathlib.Core.Bool.{Bool, true, not, cond, Bool·beq}
+use mathlib.Core.Bool.{true, not, Bool·beq}
 use mathlib.Core.List.{List}
 use Prim.Native.Nat.{ℕ, _+_, _*_, _<_}
 use borrow.Author.Tests.{ltb-true, lt-ltb}
-use lib.Dec.{eqb, ltb}
+use lib.Dec.{ltb}
 use lib.ListN.{set, length-set}
 use lib.Seq.{set-getD}
+use Rattle.words.specs.Bits.{bit}
+use Rattle.counter.specs.Mode.{XS, IP}
 use Rattle.counter.specs.Setters.{withLost}
 use Rattle.counter.specs.Repair.{noChannel}
 use Rattle.counter.specs.declared.Channel.{Channel}
 use Rattle.ports.specs.Pins.{pinAt, putPin, pinLevel}
-use Rattle.ports.specs.Virtuals.{virtualAt, putVirtual}
-use Rattle.calls.specs.Reply.{Reply, reply}
+use Rattle.ports.specs.Virtuals.{virtualAt, putVirtual, routed}
+use Rattle.calls.specs.Reply.{Reply}
 use Rattle.calls.specs.Fields.{fits}
 use Rattle.calls.specs.declared.Event.{Event}
-use Rattle.board.specs.Inputs.{channelIn, neighbour, samplesOf, inputsOf, channelNext, allNext}
+use Rattle.board.specs.Inputs.{channelIn, neighbour, indexOf, samplesOf, inputsOf, channelNext, allNext}
 use Rattle.board.specs.Step.{stepWith, stepped}
 use Rattle.board.specs.Respond.{Class, step, channel, pin, virtual, board, unknown, classOf, withChannels, withPins, withVirtuals, withCore, checked, respondBy, respondWith, respond}
 use Rattle.board.specs.Handed.{lostCleared}
@@ -28,17 +30,17 @@ use Rattle.reach.proofs.Tables.{length-tab, getD-tab, set-keeps}
 use Rattle.reach.proofs.Sound.{Sound, refusal, done, put-back}
 use Rattle.reach.proofs.RangedStep.{samples-lt, advance-ranged}
 use Rattle.reach.proofs.RangedChannel.{channel-sound}
-use Rattle.reach.proofs.RangedPins.{pin-sound, pin-ranged, sensed-ranged, driven-ranged}
-use Rattle.reach.proofs.RangedPins as pins
-use Rattle.reach.proofs.RangedVirtuals as virtuals
-use Rattle.reach.proofs.RangedVirtuals.{virtual-sound}
+use Rattle.reach.proofs.RangedPins.{pin-sound, pin-ranged, put-pin-ranged, sensed-ranged, driven-ranged}
+use Rattle.reach.proofs.RangedVirtuals.{virtual-sound, put-virtual-ranged}
 use Rattle.reach.proofs.RangedCore.{core-sound, core-ranged}
 
 -- ---- the step
 
 now-ranged : (s : Scene) (c mode route : ℕ) → samplesOf s c mode route < 16
 unfolding samplesOf
-now-ranged s c mode route = samples-lt _ _ _ _
+now-ranged s c mode route =
+    samples-lt (bit (s .lines) (3 * c)) (bit (s .lines) (3 * c + 1)) (indexOf (XS mode) (bit (s .lines) (3 * c + 2)) (s .outs) (s .ticks))
+    (not (Bool·beq (routed (s .levels) (s .virtuals) route) (IP mode)))
 
 channel-ranged : (s : Scene) (cs : List Channel) (c : ℕ) → ChannelInRange (channelIn cs c) → ChannelInRange (channelNext s cs c)
 unfolding channelNext inputsOf
@@ -58,7 +60,12 @@ stepped-ranged v w b r = record {
 
 -- ---- the calls
 
+-- an answer 6 sets the member's lost count to 0
+abbrev pub SoundEvent : Board → Event → Reply Board → Type 0
+SoundEvent b e = Sound InRange (λ y. y ≡ b) (λ y. y ≡ lostCleared (e .member) b)
+
 module _ (b : Board) (r : InRange b) where
+  -- another record in the place of channel m's
   set-ranged : (m : ℕ) (c : Channel) → ChannelInRange c → InRange (withChannels (set (b .channels) m c) b)
   set-ranged m c p = record {
     six = length-set (b .channels) m c ∙ r .six;
@@ -76,18 +83,16 @@ module _ (b : Board) (r : InRange b) where
   set-lost m c k h = ap (λ d. withChannels (set (b .channels) m d) b) h ∙ sym (taken _ _ (lt-ltb m 6 k))
 
   module _ (e : Event) where
-    abbrev SoundEvent : Reply Board → Type 0
-    SoundEvent = Sound InRange (λ y. y ≡ b) (λ y. y ≡ lostCleared (e .member) b)
-
-    checked-sound : (n : ℕ) (x : Reply Board) → (e .member < n → fits e ≡ true → SoundEvent x) → SoundEvent (checked n e b x)
+    -- the refusals 1 and 3 leave the board, so the call counts only where the member is one of n and the fields fit
+    checked-sound : (n : ℕ) (x : Reply Board) → (e .member < n → fits e ≡ true → SoundEvent b e x) → SoundEvent b e (checked n e b x)
     checked-sound n x s =
-        tested SoundEvent (ltb (e .member) n)
-        (λ h. tested SoundEvent (fits e) (s (ltb-true _ _ h)) (λ _. refusal 3 b refl r refl))
+        tested (SoundEvent b e) (ltb (e .member) n)
+        (λ h. tested (SoundEvent b e) (fits e) (s (ltb-true _ _ h)) (λ _. refusal 3 b refl r refl))
         (λ _. refusal 1 b refl r refl)
 
-    by-class : (k : Class) → SoundEvent (respondBy stepped k b e)
+    by-class : (k : Class) → SoundEvent b e (respondBy stepped k b e)
     unfolding respondBy
-    by-class step = tested SoundEvent (fits e) (λ _. done (stepped-ranged (e .v) (e .w) b r)) (λ _. refusal 3 b refl r refl)
+    by-class step = tested (SoundEvent b e) (fits e) (λ _. done (stepped-ranged (e .v) (e .w) b r)) (λ _. refusal 3 b refl r refl)
     by-class channel =
         checked-sound 6 _ (λ m f.
         put-back (λ c. withChannels (set (b .channels) (e .member) c) b) _
@@ -97,13 +102,13 @@ module _ (b : Board) (r : InRange b) where
         checked-sound 48 _ (λ m f.
         put-back (λ q. withPins (putPin (e .member) q (b .pins)) b) _
         (pin-sound (pinAt (b .pins) (e .member)) (pin-ranged (b .pins) (r .pins) (e .member) m) _ e f)
-        (λ q p. record { six = r .six; channels = r .channels; pins = pins.put-ranged (b .pins) (r .pins) (e .member) q p; virtuals = r .virtuals; core = r .core })
+        (λ q p. record { six = r .six; channels = r .channels; pins = put-pin-ranged (b .pins) (r .pins) (e .member) q p; virtuals = r .virtuals; core = r .core })
         (λ q n. absurd n) (λ q n. absurd n))
     by-class virtual =
         checked-sound 6 _ (λ m f.
         put-back (λ o. withVirtuals (putVirtual (e .member) o (b .virtuals)) b) _
         (virtual-sound _ e (virtualAt (b .virtuals) (e .member)))
-        (λ o p. record { six = r .six; channels = r .channels; pins = r .pins; virtuals = virtuals.put-ranged (e .member) o (b .virtuals); core = r .core })
+        (λ o p. record { six = r .six; channels = r .channels; pins = r .pins; virtuals = put-virtual-ranged (e .member) o (b .virtuals); core = r .core })
         (λ o n. absurd n) (λ o n. absurd n))
     by-class board =
         checked-sound 1 _ (λ m f.
@@ -112,6 +117,6 @@ module _ (b : Board) (r : InRange b) where
         (λ k h. ap (λ x. withCore x b) h) (λ k n. absurd n))
     by-class unknown = refusal 2 b refl r refl
 
-    pub respond-sound : SoundEvent (respond b e)
+    pub respond-sound : SoundEvent b e (respond b e)
     unfolding respond respondWith
     respond-sound = by-class (classOf (e .kind))

@@ -1,17 +1,15 @@
--- The calls of a channel keep it in range.
+-- Every call on a channel keeps it in range, and only the answers 0 and 6 change it.
 -- Assumes nothing.
-use mathlib.Core.Path.{_≡_, refl, sym}
-use mathlib.Core.Bool.{Bool, true, true≢false}
-use Prim.Native.Nat.{ℕ, _/_, _%_, _^_, _<_}
+use mathlib.Core.Path.{_≡_, refl}
+use mathlib.Core.Bool.{true, cond, true≢false}
+use Prim.Native.Nat.{ℕ, _<_}
 use native.Mathlib.Omega.{arith}
-use borrow.Author.Tests.{eqb-true}
 use lib.Dec.{eqb, ltb}
-use Rattle.words.specs.Bits.{bitAt}
-use Rattle.counter.specs.Mode.{TE, TP, goodMode}
-use Rattle.counter.specs.Setters.{withMode, withRoute, withMask, withRun, withLost}
-use Rattle.counter.specs.Preload.{allowed, preloaded, started}
+use Rattle.counter.specs.Mode.{TP, goodMode}
+use Rattle.counter.specs.Setters.{withMode, withRoute, withLost}
+use Rattle.counter.specs.Preload.{preloaded, started}
 use Rattle.counter.specs.declared.Channel.{Channel}
-use Rattle.calls.specs.Reply.{Reply}
+use Rattle.calls.specs.Reply.{Reply, refuse, accept}
 use Rattle.calls.specs.Fields.{limits, limit, fits}
 use Rattle.calls.specs.ChannelCalls.{modeWrite, preloadWrite, compareWrite, routeWrite, maskWrite, snapshotRead, channelCall}
 use Rattle.calls.specs.declared.Event.{Event}
@@ -23,53 +21,56 @@ use Rattle.reach.proofs.RangedQueue.{free, captured-ranged, popped-rang
 
 preloaded-ranged : (c : Channel) → ChannelInRange c → ChannelInRange (preloaded c)
 unfolding preloaded
-preloaded-ranged c r = either ChannelInRange (allowed (c .mode) (c .count)) (free r) r
+preloaded-ranged c r = free r
 
 started-ranged : (c : Channel) → ChannelInRange c → ChannelInRange (started c)
 unfolding started
 started-ranged c r =
     either ChannelInRange (c .running) r (either ChannelInRange (TP (c .mode) 24) (preloaded-ranged _ (free r)) (free r))
 
-module _ (c : Channel) (r : ChannelInRange c) where
-  -- an answer 6 sets the lost count to 0
-  abbrev pub SoundCall : Reply Channel → Type 0
-  SoundCall = Sound ChannelInRange (λ y. y ≡ c) (λ y. y ≡ withLost 0 c)
+-- an answer 6 sets the lost count to 0
+abbrev SoundCall : Channel → Reply Channel → Type 0
+SoundCall c = Sound ChannelInRange (λ y. y ≡ c) (λ y. y ≡ withLost 0 c)
 
-  mode-sound : (v : ℕ) → goodMode v ≡ true → SoundCall (modeWrite v c)
+module _ (c : Channel) (r : ChannelInRange c) where
+  -- a write that a running channel refuses
+  halted-sound : (d : Channel) → ChannelInRange d → SoundCall c (cond (c .running) (refuse 4 c) (accept d))
+  halted-sound d p = either (SoundCall c) (c .running) (refusal 4 c refl r refl) (done p)
+
+  mode-sound : (v : ℕ) → goodMode v ≡ true → SoundCall c (modeWrite v c)
   unfolding modeWrite
   mode-sound v g =
-      either SoundCall (c .running) (refusal 4 c refl r refl)
-      (done (record { mode = g; route = r .route; mask = r .mask; kept = r .kept; carry = r .carry; places = r .places; reasons = r .reasons; held = r .held }))
+      halted-sound (withMode v c) (record { mode = g; route = r .route; mask = r .mask; kept = r .kept; carry = r .carry; places = r .places; reasons = r .reasons; held = r .held })
 
-  route-sound : (v : ℕ) → v < 55 → SoundCall (routeWrite v c)
+  route-sound : (v : ℕ) → v < 55 → SoundCall c (routeWrite v c)
   unfolding routeWrite
   route-sound v b =
-      either SoundCall (c .running) (refusal 4 c refl r refl)
-      (done (record { mode = r .mode; route = b; mask = r .mask; kept = r .kept; carry = r .carry; places = r .places; reasons = r .reasons; held = r .held }))
+      halted-sound (withRoute v c) (record { mode = r .mode; route = b; mask = r .mask; kept = r .kept; carry = r .carry; places = r .places; reasons = r .reasons; held = r .held })
 
-  mask-sound : (v : ℕ) → v < 512 → SoundCall (maskWrite v c)
+  mask-sound : (v : ℕ) → v < 512 → SoundCall c (maskWrite v c)
   mask-sound v b = done (record { mode = r .mode; route = r .route; mask = b; kept = r .kept; carry = r .carry; places = r .places; reasons = r .reasons; held = r .held })
 
-  read-sound : SoundCall (snapshotRead c)
+  read-sound : SoundCall c (snapshotRead c)
   unfolding snapshotRead
   read-sound =
-      either SoundCall (ltb 0 (c .lost))
+      either (SoundCall c) (ltb 0 (c .lost))
       (record { ranged = free r; refused = λ i j. absurd (true≢false j); lost = λ j. refl })
-      (either SoundCall (eqb (c .held) 0) (refusal 5 c refl r refl) (done (popped-ranged c r)))
+      (either (SoundCall c) (eqb (c .held) 0) (refusal 5 c refl r refl) (done (popped-ranged c r)))
 
-  pub channel-sound : (t : ℕ) (e : Event) → fits e ≡ true → SoundCall (channelCall t e c)
+  pub channel-sound : (t : ℕ) (e : Event) → fits e ≡ true → SoundCall c (channelCall t e c)
   unfolding channelCall preloadWrite compareWrite limit limits
   channel-sound t e f =
+      let S = SoundCall c in
       let k = e .kind in
-      tested SoundCall (eqb k 1) (λ h. mode-sound (e .v) (good-mode e f h)) (λ _.
-      either SoundCall (eqb k 2) (done (free r))
-      (either SoundCall (eqb k 3) (done (free r))
-      (tested SoundCall (eqb k 4) (λ h. route-sound (e .v) (below-limit e f 4 h)) (λ _.
-      tested SoundCall (eqb k 5) (λ h. mask-sound (e .v) (below-limit e f 5 h)) (λ _.
-      either SoundCall (eqb k 6) (done (started-ranged c r))
-      (either SoundCall (eqb k 7) (done (free r))
-      (either SoundCall (eqb k 8) (done (captured-ranged c r (c .count) t 128 (omega arith)))
-      (either SoundCall (eqb k 9) (done (preloaded-ranged c r))
-      (either SoundCall (eqb k 10) (done r)
-      (either SoundCall (eqb k 11) read-sound
+      tested S (eqb k 1) (λ h. mode-sound (e .v) (good-mode e f h)) (λ _.
+      either S (eqb k 2) (done (free r))
+      (either S (eqb k 3) (done (free r))
+      (tested S (eqb k 4) (λ h. route-sound (e .v) (below-limit e f 4 h)) (λ _.
+      tested S (eqb k 5) (λ h. mask-sound (e .v) (below-limit e f 5 h)) (λ _.
+      either S (eqb k 6) (done (started-ranged c r))
+      (either S (eqb k 7) (done (free r))
+      (either S (eqb k 8) (done (captured-ranged c r (c .count) t 128 (omega arith)))
+      (either S (eqb k 9) (done (preloaded-ranged c r))
+      (either S (eqb k 10) (done r)
+      (either S (eqb k 11) read-sound
       (done r)))))))))))

@@ -2,10 +2,10 @@
 -- Assumes nothing.
 use mathlib.Core.Path.{_≡_}
 use mathlib.Core.Bool.{Bool, true, false, cond}
-use Prim.Native.Nat.{ℕ, _+_, _*_, _%_, _^_, _<_}
+use Prim.Native.Nat.{ℕ, _%_, _^_, _<_}
 use native.Mathlib.Omega.{arith}
 use lib.Dec.{eqb}
-use Rattle.words.specs.Bits.{bit, flag, word}
+use Rattle.words.specs.Bits.{bit, word}
 use Rattle.words.proofs.BitLaws.{word-lt, word-of, bit-word}
 use Rattle.ports.specs.Pins.{number, pinAt, putPin, sensedWith, driven}
 use Rattle.ports.specs.declared.Pin.{Pin}
@@ -61,11 +61,12 @@ free r l d = record {
   source = r .source;
 }
 
--- the number of the three low bits
+-- a source number below 7 is below 7 in its three bits too
 low-bits : (n : ℕ) → n < 7 → number (bit n 0) (bit n 1) (bit n 2) < 7
 unfolding word
 low-bits n h = let e : n % 2 ^ 3 ≡ word 3 (bit n) = word-of 3 n in omega arith
 
+-- and so is the choice between it and pin i's
 chosen : (t : Bool) (n : ℕ) (x : Pins) (i : ℕ) → n < 7 → pinAt x i .source < 7
     → number (cond t (bit n 0) (bit (x .source0) i)) (cond t (bit n 1) (bit (x .source1) i)) (cond t (bit n 2) (bit (x .source2) i)) < 7
 unfolding pinAt
@@ -76,9 +77,9 @@ module _ (x : Pins) (r : PinsInRange x) where
   pub pin-ranged : (p : ℕ) → p < 48 → PinInRange (pinAt x p)
   pin-ranged p h = record { source = r .source p h }
 
-  pub put-ranged : (p : ℕ) (q : Pin) → PinInRange q → PinsInRange (putPin p q x)
+  pub put-pin-ranged : (p : ℕ) (q : Pin) → PinInRange q → PinsInRange (putPin p q x)
   unfolding pinAt putPin
-  put-ranged p q s = record {
+  put-pin-ranged p q s = record {
     level = word-lt 48 _;
     driven = word-lt 48 _;
     own = word-lt 48 _;

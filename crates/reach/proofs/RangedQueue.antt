@@ -1,17 +1,15 @@
--- A capture and its reading keep a channel in range.
+-- Which fields of a channel have no range, and that a capture and its reading keep a channel in range.
 -- Assumes nothing.
 use mathlib.Core.Path.{_≡_, _∙_}
 use mathlib.Core.Bool.{Bool}
-use mathlib.Core.List.{List, [], _∷_, _++_}
-use Prim.Native.Nat.{ℕ, suc, _+_, _-_, _<_}
+use mathlib.Core.List.{List}
+use Prim.Native.Nat.{ℕ, suc, _<_}
 use native.Mathlib.Omega.{arith}
 use borrow.Author.Tests.{ltb-true}
 use lib.Dec.{ltb}
 use lib.ListN.{length, getD, length-set, length-append}
-use lib.IntN.{ℤ}
-use Rattle.words.specs.Table.{tab}
 use Rattle.counter.specs.Setters.{withQueue}
-use Rattle.counter.specs.Queue.{captured, shifted, popped}
+use Rattle.counter.specs.Queue.{captured, popped}
 use Rattle.counter.specs.declared.Channel.{Channel}
 use Rattle.reach.specs.Range.{ChannelInRange}
 use Rattle.reach.proofs.Cases.{tested}

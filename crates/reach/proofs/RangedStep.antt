@@ -26,13 +26,13 @@ samples-lt a b x e = omega (arith, flag-lt a, flag-lt b, flag-lt x, flag-lt e)
 
 -- ---- what a step makes of the small fields
 
-record Unit (z : ℤ) : Type 0 where
+record Small (z : ℤ) : Type 0 where
   size : natAbs z < 2
 
-carry-unit : (n : ℕ) (d : ℤ) → Unit (carryOf n d)
-carry-unit n d =
-    either Unit (isUp d && ltb (moved n d) n) (record { size = omega arith })
-    (either Unit (isDown d && ltb n (moved n d)) (record { size = omega arith }) (record { size = omega arith }))
+carry-small : (n : ℕ) (d : ℤ) → Small (carryOf n d)
+carry-small n d =
+    either Small (isUp d && ltb (moved n d) n) (record { size = omega arith })
+    (either Small (isDown d && ltb n (moved n d)) (record { size = omega arith }) (record { size = omega arith }))
 
 record NextInRange (n : Next) : Type 0 where
   caught : n .caught < 512
@@ -44,7 +44,7 @@ caught-lt m mask m0 m1 zero kept now = word-lt 9 _
 
 finished-ranged : (now : ℕ) (g : Registers) (d : ℤ) → NextInRange (finished now g d)
 unfolding finished
-finished-ranged now g d = record { caught = caught-lt _ _ _ _ _ _ _; carry = carry-unit (g .count) d .size }
+finished-ranged now g d = record { caught = caught-lt _ _ _ _ _ _ _; carry = carry-small (g .count) d .size }
 
 live-ranged : (now : ℕ) (carried : ℤ) (rises : Bool) (g : Registers) → NextInRange (live now carried rises g)
 unfolding live

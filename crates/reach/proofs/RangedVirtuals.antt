@@ -1,6 +1,5 @@
 -- A call of a virtual output keeps the outputs in range.
 -- Assumes nothing.
-use mathlib.Core.Path.{_≡_}
 use mathlib.Core.Bool.{Bool}
 use Prim.Native.Nat.{ℕ}
 use lib.Dec.{eqb}
@@ -21,6 +20,6 @@ virtual-sound writes e o =
     let S = Sound (λ y. Unit {0}) Never Never in
     either S (eqb (e .kind) 18) (done tt) (either S (eqb (e .kind) 19) (done tt) (either S (eqb (e .kind) 20) (done tt) (done tt)))
 
-pub put-ranged : (o : ℕ) (q : Virtual) (x : Virtuals) → VirtualsInRange (putVirtual o q x)
+pub put-virtual-ranged : (o : ℕ) (q : Virtual) (x : Virtuals) → VirtualsInRange (putVirtual o q x)
 unfolding putVirtual
-put-ranged o q x = record { own = word-lt 6 _; safedata = word-lt 6 _; safeenable = word-lt 6 _ }
+put-virtual-ranged o q x = record { own = word-lt 6 _; safedata = word-lt 6 _; safeenable = word-lt 6 _ }

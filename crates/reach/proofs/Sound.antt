@@ -1,7 +1,7 @@
 -- What is shown of the reply of every call: the record stays in range, and only the answers 0 and 6 change it.
 -- Assumes nothing.
 use mathlib.Core.Path.{_≡_, sym, _∙_}
-use mathlib.Core.Bool.{Bool, true, false, true≢false}
+use mathlib.Core.Bool.{true, false, true≢false}
 use Prim.Native.Nat.{ℕ}
 use lib.Dec.{eqb}
 use Rattle.calls.specs.Reply.{Reply, reply, refuse}

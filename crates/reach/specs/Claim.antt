@@ -2,7 +2,6 @@
 -- Assumes nothing.
 use mathlib.Core.Path.{_≡_}
 use mathlib.Core.List.{List, [], _∷_}
-use Rattle.calls.specs.Reply.{Reply}
 use Rattle.calls.specs.declared.Event.{Event}
 use Rattle.board.specs.Respond.{respond}
 use Rattle.board.specs.Handed.{resetBoard, repairedBoard, applied}
@@ -19,6 +18,7 @@ Every P (x ∷ xs) = P x × Every P xs
 -- the repair leaves it alone
 pub record OnLists (es : List Event) : Type 0 where
   pub same : replies applied resetBoard es ≡ replies respond resetBoard es
+  pub sameLast : finish applied resetBoard es ≡ finish respond resetBoard es
   pub ranged : Every (λ r. InRange (r .state)) (replies respond resetBoard es)
   pub last : InRange (finish respond resetBoard es)
 

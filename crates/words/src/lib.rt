@@ -1,8 +1,8 @@
-// Bits of a number, and words of 48 bits, a bit for each pin of the board. The operators on bits
-// stand here and nowhere else: each function says which bits its result has, and the other crates
-// go by that. A word function ends in a remainder by 2^48, so it takes every u64.
+// Bits of a number, and words of 48 bits, a bit for each pin of the board. Each function says which
+// bits its result has, and the crates above go by that. A word function ends in a remainder by
+// 2^48, so it takes every u64.
 ghost use mathlib.Core.Path.{_≡_};
-ghost use Prim.Native.Nat.{_+_, _<_, _%_, _^_};
+ghost use Prim.Native.Nat.{_<_, _%_, _^_};
 ghost use mathlib.Core.Bool.{not, cond, _||_, _&&_};
 ghost use lib.Dec.{eqb};
 ghost use Rattle.words.specs.Bits.{bit, flag, word};

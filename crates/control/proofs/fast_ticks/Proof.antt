@@ -1,53 +1,41 @@
+-- `control::fast_ticks` meets its contract.
+-- Assumes nothing.
 use native.Mathlib.Omega.{arith}
 use Rattle.words.specs.Bits.{word}
 use borrow.Author.Needs.{needs}
 use Rattle.control.proofs.fast_ticks.Statement.{statement}
 use Rattle.control.proofs.fast_ticks.Tie as tie
-use Rattle.control.proofs.fast_ticks.Reads as reads
-use Rattle.control.proofs.fast_ticks.Lts as lts
-use Rattle.words.proofs.flag.Reads as flag-reads
 
--- src/lib.rt:196:5
 flag-requires : tie.Need-flag-requires
 flag-requires c κs = search needs
 
--- src/lib.rt:197:15
 flag-requires-2 : tie.Need-flag-requires-2
 flag-requires-2 c κs = search needs
 
--- src/lib.rt:197:11
 mul-result : tie.Need-mul-result
 mul-result c = search needs
 
--- src/lib.rt:196:5
 add-result : tie.Need-add-result
 add-result c = search needs
 
--- src/lib.rt:198:15
 flag-requires-3 : tie.Need-flag-requires-3
 flag-requires-3 c κs = search needs
 
--- src/lib.rt:198:11
 mul-result-2 : tie.Need-mul-result-2
 mul-result-2 c = search needs
 
--- src/lib.rt:196:5
 add-result-2 : tie.Need-add-result-2
 add-result-2 c = search needs
 
--- src/lib.rt:199:15
 flag-requires-4 : tie.Need-flag-requires-4
 flag-requires-4 c κs = search needs
 
--- src/lib.rt:199:11
 mul-result-3 : tie.Need-mul-result-3
 mul-result-3 c = search needs
 
--- src/lib.rt:196:5
 add-result-3 : tie.Need-add-result-3
 add-result-3 c = search needs
 
--- src/lib.rt:192:1
 returns : tie.Need-returns
 unfolding word
 returns c =

@@ -105,23 +105,24 @@ in-reason-requires-16 c κs = search needs
 returns : tie.Need-returns
 unfolding tab inReasons
 returns c =
-    simp
-    (c .in-reason16 .ensures,
-    c .before .in-reason15 .ensures,
-    c .before .before .in-reason14 .ensures,
-    c .before .before .before .in-reason13 .ensures,
-    c .before .before .before .before .in-reason12 .ensures,
-    c .before .before .before .before .before .in-reason11 .ensures,
-    c .before .before .before .before .before .before .in-reason10 .ensures,
-    c .before .before .before .before .before .before .before .in-reason9 .ensures,
-    c .before .before .before .before .before .before .before .before .in-reason8 .ensures,
-    c .before .before .before .before .before .before .before .before .before .in-reason7 .ensures,
-    c .before .before .before .before .before .before .before .before .before .before .in-reason6 .ensures,
-    c .before .before .before .before .before .before .before .before .before .before .before .in-reason5 .ensures,
-    c .before .before .before .before .before .before .before .before .before .before .before .before .in-reason4 .ensures,
-    c .before .before .before .before .before .before .before .before .before .before .before .before .before .in-reason3 .ensures,
-    c .before .before .before .before .before .before .before .before .before .before .before .before .before .before .in-reason2 .ensures,
-    c .before .before .before .before .before .before .before .before .before .before .before .before .before .before .before .in-reason .ensures)
+    simp (
+      c .in-reason16 .ensures,
+      c .before .in-reason15 .ensures,
+      c .before .before .in-reason14 .ensures,
+      c .before .before .before .in-reason13 .ensures,
+      c .before .before .before .before .in-reason12 .ensures,
+      c .before .before .before .before .before .in-reason11 .ensures,
+      c .before .before .before .before .before .before .in-reason10 .ensures,
+      c .before .before .before .before .before .before .before .in-reason9 .ensures,
+      c .before .before .before .before .before .before .before .before .in-reason8 .ensures,
+      c .before .before .before .before .before .before .before .before .before .in-reason7 .ensures,
+      c .before .before .before .before .before .before .before .before .before .before .in-reason6 .ensures,
+      c .before .before .before .before .before .before .before .before .before .before .before .in-reason5 .ensures,
+      c .before .before .before .before .before .before .before .before .before .before .before .before .in-reason4 .ensures,
+      c .before .before .before .before .before .before .before .before .before .before .before .before .before .in-reason3 .ensures,
+      c .before .before .before .before .before .before .before .before .before .before .before .before .before .before .in-reason2 .ensures,
+      c .before .before .before .before .before .before .before .before .before .before .before .before .before .before .before .in-reason .ensures,
+    )
 
 pub in-reasons-spec : {M : Type 1} → statement M
 in-reasons-spec =

@@ -1,10 +1,10 @@
+-- `points::line_end` meets its contract.
+-- Assumes nothing.
 use lib.ListN.{length}
 use Prim.Native.Nat.{_≤_, _-_, _<_}
 use borrow.Author.Needs.{needs}
 use Rattle.points.proofs.line_end.Statement.{statement}
 use Rattle.points.proofs.line_end.Tie as tie
-use Rattle.points.proofs.line_end.Reads as reads
-use Rattle.points.proofs.line_end.Lts as lts
 
 abbrev Inv-loop : tie.InvT-loop
 Inv-loop text at i₀ i = (at ≤ i) × (i ≤ length text) × (at < length text)
@@ -12,35 +12,27 @@ Inv-loop text at i₀ i = (at ≤ i) × (i ≤ length text) × (at < length text
 abbrev μ-loop : tie.MeasureT-loop
 μ-loop text at i₀ i = length text - i
 
--- src/main.rt:39:5
 loop-holds : tie.Need-loop-holds Inv-loop μ-loop
 loop-holds c = search needs
 
--- src/main.rt:40:12
 shared-slice-read-if1 : tie.Need-shared-slice-read-if1 Inv-loop μ-loop
 shared-slice-read-if1 c = search needs
 
--- src/main.rt:41:20
 add-result : tie.Need-add-result Inv-loop μ-loop
 add-result c = search needs
 
--- src/main.rt:41:13
 returns : tie.Need-returns Inv-loop μ-loop
 returns c = search needs
 
--- src/main.rt:43:9
 add-i : tie.Need-add-i Inv-loop μ-loop
 add-i c = search needs
 
--- src/main.rt:39:5
 loop-less : tie.Need-loop-less Inv-loop μ-loop
 loop-less c = search needs
 
--- src/main.rt:39:5
 loop-again : tie.Need-loop-again Inv-loop μ-loop
 loop-again c = search needs
 
--- src/main.rt:33:1
 returns-2 : tie.Need-returns-2 Inv-loop μ-loop
 returns-2 c = search needs
 

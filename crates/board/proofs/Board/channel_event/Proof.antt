@@ -1,54 +1,41 @@
+-- `board::Board::channel_event` meets its contract.
+-- Assumes nothing.
 use borrow.Author.Tests.{lt-ltb, le-ltb}
 use Rattle.board.specs.Respond.{respondBy}
 use borrow.Author.Needs.{needs}
 use Rattle.board.proofs.Board.channel_event.Statement.{statement}
 use Rattle.board.proofs.Board.channel_event.Tie as tie
-use Rattle.board.proofs.Board.channel_event.Reads as reads
-use Rattle.board.proofs.Board.channel_event.Lts as lts
-use Rattle.board.proofs.Board.refuse.Reads as refuse-reads
-use Rattle.calls.proofs.channel_call.Reads as channel-call-reads
-use Rattle.calls.proofs.fits.Reads as fits-reads
 
--- src/respond.rt:30:17
 cast-m : tie.Need-cast-m
 cast-m c = search needs
 
--- src/respond.rt:32:13
 refuse-requires : tie.Need-refuse-requires
 refuse-requires c κs = search needs
 
--- src/respond.rt:32:13
 returns : tie.Need-returns
 unfolding respondBy
 returns c =
     let c₁ = c .before in
     rw (c .refuse .ensures, le-ltb _ _ (c₁ .if1 .taken))
 
--- src/respond.rt:34:12
 fits-requires : tie.Need-fits-requires
 fits-requires c κs = search needs
 
--- src/respond.rt:35:21
 mul-c : tie.Need-mul-c
 mul-c c = search needs
 
--- src/respond.rt:35:21
 element-copy-out-c : tie.Need-element-copy-out-c
 element-copy-out-c c = search needs
 
--- src/respond.rt:36:17
 channel-call-requires : tie.Need-channel-call-requires
 channel-call-requires c κs = search needs
 
--- src/respond.rt:39:13
 mul-next : tie.Need-mul-next
 mul-next c = search needs
 
--- src/respond.rt:39:13
 element-set-from-next : tie.Need-element-set-from-next
 element-set-from-next c = search needs
 
--- src/respond.rt:40:13
 returns-2 : tie.Need-returns-2
 unfolding respondBy
 returns-2 c =
@@ -60,11 +47,9 @@ returns-2 c =
     let c₆ = c₅ .before in
     rw (c₂ .channel-call .ensures, lt-ltb _ _ (c₆ .if1 .left), ← c₅ .fits2 .ensures, c₄ .if2 .taken)
 
--- src/respond.rt:42:9
 refuse-requires-2 : tie.Need-refuse-requires-2
 refuse-requires-2 c κs = search needs
 
--- src/respond.rt:27:5
 returns-3 : tie.Need-returns-3
 unfolding respondBy
 returns-3 c =

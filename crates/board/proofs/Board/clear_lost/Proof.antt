@@ -1,33 +1,27 @@
+-- `board::Board::clear_lost` meets its contract.
+-- Assumes nothing.
 use borrow.Author.Tests.{lt-ltb, le-ltb}
 use Rattle.board.specs.Handed.{lostCleared}
 use borrow.Author.Needs.{needs}
 use Rattle.board.proofs.Board.clear_lost.Statement.{statement}
 use Rattle.board.proofs.Board.clear_lost.Tie as tie
-use Rattle.board.proofs.Board.clear_lost.Reads as reads
-use Rattle.board.proofs.Board.clear_lost.Lts as lts
 
--- src/entry.rt:44:25
 mul-c : tie.Need-mul-c
 mul-c c = search needs
 
--- src/entry.rt:44:25
 element-copy-out-c : tie.Need-element-copy-out-c
 element-copy-out-c c = search needs
 
--- src/entry.rt:46:13
 mul-c-2 : tie.Need-mul-c-2
 mul-c-2 c = search needs
 
--- src/entry.rt:46:13
 element-set-from-c : tie.Need-element-set-from-c
 element-set-from-c c = search needs
 
--- src/entry.rt:39:5
 returns : tie.Need-returns
 unfolding lostCleared
 returns c = rw (lt-ltb _ _ (c .before .if1 .taken))
 
--- src/entry.rt:39:5
 returns-2 : tie.Need-returns-2
 unfolding lostCleared
 returns-2 c = rw (le-ltb _ _ (c .if1 .left))

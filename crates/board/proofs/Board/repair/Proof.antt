@@ -1,76 +1,56 @@
+-- `board::Board::repair` meets its contract.
+-- Assumes nothing.
 use Rattle.words.specs.Table.{tab}
 use Rattle.board.specs.Handed.{repairedBoard}
 use borrow.Author.Needs.{needs}
 use Rattle.board.proofs.Board.repair.Statement.{statement}
 use Rattle.board.proofs.Board.repair.Tie as tie
-use Rattle.board.proofs.Board.repair.Reads as reads
-use Rattle.board.proofs.Board.repair.Lts as lts
-use Rattle.board.proofs.entry.repair_channel.Reads as repair-channel-reads
-use Rattle.control.proofs.Core.repair.Reads as Core-repair-reads
-use Rattle.ports.proofs.Pins.repair.Reads as Pins-repair-reads
-use Rattle.ports.proofs.Virtuals.repair.Reads as Virtuals-repair-reads
 
--- src/entry.rt:28:28
 array-copy-out-repair-channel : tie.Need-array-copy-out-repair-channel
 array-copy-out-repair-channel c = search needs
 
--- src/entry.rt:28:13
 repair-channel-requires : tie.Need-repair-channel-requires
 repair-channel-requires c κs = search needs
 
--- src/entry.rt:29:28
 array-copy-out-repair-channel-2 : tie.Need-array-copy-out-repair-channel-2
 array-copy-out-repair-channel-2 c = search needs
 
--- src/entry.rt:29:13
 repair-channel-requires-2 : tie.Need-repair-channel-requires-2
 repair-channel-requires-2 c κs = search needs
 
--- src/entry.rt:30:28
 array-copy-out-repair-channel-3 : tie.Need-array-copy-out-repair-channel-3
 array-copy-out-repair-channel-3 c = search needs
 
--- src/entry.rt:30:13
 repair-channel-requires-3 : tie.Need-repair-channel-requires-3
 repair-channel-requires-3 c κs = search needs
 
--- src/entry.rt:31:28
 array-copy-out-repair-channel-4 : tie.Need-array-copy-out-repair-channel-4
 array-copy-out-repair-channel-4 c = search needs
 
--- src/entry.rt:31:13
 repair-channel-requires-4 : tie.Need-repair-channel-requires-4
 repair-channel-requires-4 c κs = search needs
 
--- src/entry.rt:32:28
 array-copy-out-repair-channel-5 : tie.Need-array-copy-out-repair-channel-5
 array-copy-out-repair-channel-5 c = search needs
 
--- src/entry.rt:32:13
 repair-channel-requires-5 : tie.Need-repair-channel-requires-5
 repair-channel-requires-5 c κs = search needs
 
--- src/entry.rt:33:28
 array-copy-out-repair-channel-6 : tie.Need-array-copy-out-repair-channel-6
 array-copy-out-repair-channel-6 c = search needs
 
--- src/entry.rt:33:13
 repair-channel-requires-6 : tie.Need-repair-channel-requires-6
 repair-channel-requires-6 c κs = search needs
 
--- src/entry.rt:35:40
 repair-requires : tie.Need-repair-requires
 repair-requires c κs = search needs
 
--- src/entry.rt:35:65
 repair-requires-2 : tie.Need-repair-requires-2
 repair-requires-2 c κs = search needs
 
--- src/entry.rt:35:90
 repair-requires-3 : tie.Need-repair-requires-3
 repair-requires-3 c κs = search needs
 
--- src/entry.rt:20:5
 returns : tie.Need-returns
 unfolding repairedBoard tab
 returns c =

@@ -1,49 +1,35 @@
+-- `board::Board::respond` meets its contract.
+-- Assumes nothing.
 use borrow.Author.Tests.{lt-ltb, le-ltb, ne-eqb}
 use Rattle.board.specs.Respond.{respond, respondWith, respondBy}
 use borrow.Author.Needs.{needs}
 use Rattle.board.proofs.Board.respond.Statement.{statement}
 use Rattle.board.proofs.Board.respond.Tie as tie
-use Rattle.board.proofs.Board.respond.Reads as reads
-use Rattle.board.proofs.Board.respond.Lts as lts
-use Rattle.board.proofs.Board.board_event.Reads as board-event-reads
-use Rattle.board.proofs.Board.channel_event.Reads as channel-event-reads
-use Rattle.board.proofs.Board.pin_event.Reads as pin-event-reads
-use Rattle.board.proofs.Board.refuse.Reads as refuse-reads
-use Rattle.board.proofs.Board.step_event.Reads as step-event-reads
-use Rattle.board.proofs.Board.virtual_event.Reads as virtual-event-reads
 
--- src/respond.rt:104:18
 step-event-requires : tie.Need-step-event-requires
 step-event-requires c κs = search needs
 
--- src/respond.rt:105:23
 channel-event-requires : tie.Need-channel-event-requires
 channel-event-requires c κs = search needs
 
--- src/respond.rt:106:24
 pin-event-requires : tie.Need-pin-event-requires
 pin-event-requires c κs = search needs
 
--- src/respond.rt:107:24
 virtual-event-requires : tie.Need-virtual-event-requires
 virtual-event-requires c κs = search needs
 
--- src/respond.rt:108:24
 board-event-requires : tie.Need-board-event-requires
 board-event-requires c κs = search needs
 
--- src/respond.rt:109:18
 refuse-requires : tie.Need-refuse-requires
 refuse-requires c κs = search needs
 
--- src/respond.rt:99:5
 returns : tie.Need-returns
 unfolding respond respondWith
 returns c =
     let c₁ = c .before in
     rw (c .step-event .ensures, c₁ .match .keys1)
 
--- src/respond.rt:99:5
 returns-2 : tie.Need-returns-2
 unfolding respond respondWith
 returns-2 c =
@@ -51,7 +37,6 @@ returns-2 c =
     let c₂ = c₁ .before in
     rw (c .channel-event .ensures, ne-eqb _ _ (c₂ .match .rest .1), lt-ltb _ _ (c₁ .if1 .taken))
 
--- src/respond.rt:99:5
 returns-3 : tie.Need-returns-3
 unfolding respond respondWith
 returns-3 c =
@@ -60,7 +45,6 @@ returns-3 c =
     let c₃ = c₂ .before in
     rw (c .pin-event .ensures, ne-eqb _ _ (c₃ .match .rest .1), le-ltb _ _ (c₂ .if1 .left), lt-ltb _ _ (c₁ .if2 .taken))
 
--- src/respond.rt:99:5
 returns-4 : tie.Need-returns-4
 unfolding respond respondWith
 returns-4 c =
@@ -70,7 +54,6 @@ returns-4 c =
     let c₄ = c₃ .before in
     rw (c .virtual-event .ensures, ne-eqb _ _ (c₄ .match .rest .1), le-ltb _ _ (c₃ .if1 .left), le-ltb _ _ (c₂ .if2 .left), lt-ltb _ _ (c₁ .if3 .taken))
 
--- src/respond.rt:99:5
 returns-5 : tie.Need-returns-5
 unfolding respond respondWith
 returns-5 c =
@@ -81,7 +64,6 @@ returns-5 c =
     let c₅ = c₄ .before in
     rw (c .board-event .ensures, ne-eqb _ _ (c₅ .match .rest .1), le-ltb _ _ (c₄ .if1 .left), le-ltb _ _ (c₃ .if2 .left), le-ltb _ _ (c₂ .if3 .left), lt-ltb _ _ (c₁ .if4 .taken))
 
--- src/respond.rt:99:5
 returns-6 : tie.Need-returns-6
 unfolding respond respondWith respondBy
 returns-6 c =

@@ -1,55 +1,37 @@
+-- `board::Board::step` meets its contract.
+-- Assumes nothing.
 use Rattle.board.specs.Step.{stepped, stepWith}
 use borrow.Author.Needs.{needs}
 use Rattle.board.proofs.Board.step.Statement.{statement}
 use Rattle.board.proofs.Board.step.Tie as tie
-use Rattle.board.proofs.Board.step.Reads as reads
-use Rattle.board.proofs.Board.step.Lts as lts
-use Rattle.board.proofs.step.advance_all.Reads as advance-all-reads
-use Rattle.board.proofs.step.advance_core.Reads as advance-core-reads
-use Rattle.board.proofs.step.extouts.Reads as extouts-reads
-use Rattle.board.proofs.step.scene.Reads as scene-reads
-use Rattle.ports.proofs.Pins.drive.Reads as drive-reads
-use Rattle.ports.proofs.Pins.sense.Reads as sense-reads
-use Rattle.ports.proofs.Virtuals.levels.Reads as levels-reads
-use Rattle.words.proofs.bit.Reads as bit-reads
 
--- src/step.rt:118:13
 sense-requires : tie.Need-sense-requires
 sense-requires c κs = search needs
 
--- src/step.rt:120:38
 bit-requires : tie.Need-bit-requires
 bit-requires c κs = search needs
 
--- src/step.rt:120:13
 advance-core-requires : tie.Need-advance-core-requires
 advance-core-requires c κs = search needs
 
--- src/step.rt:122:13
 levels-requires : tie.Need-levels-requires
 levels-requires c κs = search needs
 
--- src/step.rt:125:26
 extouts-requires : tie.Need-extouts-requires
 extouts-requires c κs = search needs
 
--- src/step.rt:125:13
 scene-requires : tie.Need-scene-requires
 scene-requires c κs = search needs
 
--- src/step.rt:126:13
 advance-all-requires : tie.Need-advance-all-requires
 advance-all-requires c κs = search needs
 
--- src/step.rt:127:33
 extouts-requires-2 : tie.Need-extouts-requires-2
 extouts-requires-2 c κs = search needs
 
--- src/step.rt:127:13
 drive-requires : tie.Need-drive-requires
 drive-requires c κs = search needs
 
--- src/step.rt:114:5
 returns : tie.Need-returns
 unfolding stepped stepWith
 returns c =

@@ -1,6 +1,6 @@
+-- `board::entry::apply` meets its contract.
+-- Assumes nothing.
 use mathlib.Core.Path.{_≡_, ap, sym, _∙_}
-use Prim.Native.Nat.{ℕ}
-use Rattle.calls.specs.Reply.{Reply}
 use Rattle.calls.specs.declared.Event.{Event}
 use Rattle.board.specs.Respond.{outcome}
 use Rattle.board.specs.Handed.{repairedBoard, lostCleared}
@@ -12,11 +12,6 @@ use Rattle.board.specs.Handed.{applied, kept}
 use borrow.Author.Needs.{needs}
 use Rattle.board.proofs.entry.apply.Statement.{statement}
 use Rattle.board.proofs.entry.apply.Tie as tie
-use Rattle.board.proofs.entry.apply.Reads as reads
-use Rattle.board.proofs.entry.apply.Lts as lts
-use Rattle.board.proofs.Board.clear_lost.Reads as clear-lost-reads
-use Rattle.board.proofs.Board.repair.Reads as repair-reads
-use Rattle.board.proofs.Board.respond.Reads as respond-reads
 
 -- o is what the response of the repaired board gave
 module _ (b : Board) (e : Event) (o : Outcome) (s : Board) (p : o ≡ outcome (respond s e)) (q : s ≡ repairedBoard b) where
@@ -42,15 +37,12 @@ module _ (b : Board) (e : Event) (o : Outcome) (s : Board) (p : o ≡ outcome (r
   unfolding applied kept
   unchanged h g = rw (ne-eqb _ 0 (λ z. h (result ∙ z)), ne-eqb _ 6 (λ z. g (result ∙ z)), answer)
 
--- src/entry.rt:56:13
 repair-requires : tie.Need-repair-requires
 repair-requires c κs = search needs
 
--- src/entry.rt:56:9
 respond-requires : tie.Need-respond-requires
 respond-requires c κs = search needs
 
--- src/entry.rt:59:9
 returns : tie.Need-returns
 returns c =
     let c₁ = c .before in
@@ -60,11 +52,9 @@ returns c =
     let c₅ = c₄ .before in
     let a = c₅ .args in stored (a .board) (a .event) _ _ (c₃ .respond .ensures) (c₄ .repair .ensures) (c .if1 .taken)
 
--- src/entry.rt:62:33
 clear-lost-requires : tie.Need-clear-lost-requires
 clear-lost-requires c κs = search needs
 
--- src/entry.rt:62:9
 returns-2 : tie.Need-returns-2
 returns-2 c =
     let c₁ = c .before in
@@ -77,7 +67,6 @@ returns-2 c =
     let c₈ = c₇ .before in
     let a = c₈ .args in cleared (a .board) (a .event) _ _ (c₆ .respond .ensures) (c₇ .repair .ensures) _ (c .clear-lost .ensures) (c₃ .if1 .left) (c₁ .if2 .taken)
 
--- src/entry.rt:53:1
 returns-3 : tie.Need-returns-3
 returns-3 c =
     let c₁ = c .before in

@@ -1,4 +1,6 @@
-use mathlib.Core.Path.{_≡_, ap, sym, _∙_}
+-- `board::step::advance_all` meets its contract.
+-- Assumes nothing.
+use mathlib.Core.Path.{_≡_, ap, _∙_}
 use mathlib.Core.List.{List, [], _∷_}
 use Prim.Native.Nat.{ℕ}
 use lib.IntN.{ℤ}
@@ -13,9 +15,6 @@ use Rattle.board.specs.Inputs.{allNext, channelNext}
 use borrow.Author.Needs.{needs}
 use Rattle.board.proofs.step.advance_all.Statement.{statement}
 use Rattle.board.proofs.step.advance_all.Tie as tie
-use Rattle.board.proofs.step.advance_all.Reads as reads
-use Rattle.board.proofs.step.advance_all.Lts as lts
-use Rattle.board.proofs.step.advance.Reads as advance-reads
 
 module _ (s : Scene) (cs : List Channel) where
   -- one channel, from what `advance` gives with the neighbour's carry
@@ -29,55 +28,42 @@ module _ (s : Scene) (cs : List Channel) where
   unfolding allNext tab
   all r₀ r₁ r₂ r₃ r₄ r₅ p₀ p₁ p₂ p₃ p₄ p₅ = λ i. p₀ i ∷ p₁ i ∷ p₂ i ∷ p₃ i ∷ p₄ i ∷ p₅ i ∷ []
 
--- src/step.rt:71:14
 array-copy-out-o0 : tie.Need-array-copy-out-o0
 array-copy-out-o0 c = search needs
 
--- src/step.rt:72:14
 array-copy-out-o1 : tie.Need-array-copy-out-o1
 array-copy-out-o1 c = search needs
 
--- src/step.rt:73:14
 array-copy-out-o2 : tie.Need-array-copy-out-o2
 array-copy-out-o2 c = search needs
 
--- src/step.rt:74:14
 array-copy-out-o3 : tie.Need-array-copy-out-o3
 array-copy-out-o3 c = search needs
 
--- src/step.rt:75:14
 array-copy-out-o4 : tie.Need-array-copy-out-o4
 array-copy-out-o4 c = search needs
 
--- src/step.rt:76:14
 array-copy-out-o5 : tie.Need-array-copy-out-o5
 array-copy-out-o5 c = search needs
 
--- src/step.rt:77:9
 advance-requires : tie.Need-advance-requires
 advance-requires c κs = search needs
 
--- src/step.rt:78:9
 advance-requires-2 : tie.Need-advance-requires-2
 advance-requires-2 c κs = search needs
 
--- src/step.rt:79:9
 advance-requires-3 : tie.Need-advance-requires-3
 advance-requires-3 c κs = search needs
 
--- src/step.rt:80:9
 advance-requires-4 : tie.Need-advance-requires-4
 advance-requires-4 c κs = search needs
 
--- src/step.rt:81:9
 advance-requires-5 : tie.Need-advance-requires-5
 advance-requires-5 c κs = search needs
 
--- src/step.rt:82:9
 advance-requires-6 : tie.Need-advance-requires-6
 advance-requires-6 c κs = search needs
 
--- src/step.rt:68:1
 returns : tie.Need-returns
 returns c =
     let c₁ = c .before in

@@ -1,26 +1,19 @@
+-- `board::step::advance_core` meets its contract.
+-- Assumes nothing.
 use Rattle.board.specs.Step.{coreNext}
 use borrow.Author.Needs.{needs}
 use Rattle.board.proofs.step.advance_core.Statement.{statement}
 use Rattle.board.proofs.step.advance_core.Tie as tie
-use Rattle.board.proofs.step.advance_core.Reads as reads
-use Rattle.board.proofs.step.advance_core.Lts as lts
-use Rattle.control.proofs.Clock.advance.Reads as advance-reads
-use Rattle.control.proofs.Safety.guard.Reads as guard-reads
-use Rattle.control.proofs.Watchdog.watch.Reads as watch-reads
 
--- src/step.rt:108:9
 watch-requires : tie.Need-watch-requires
 watch-requires c κs = search needs
 
--- src/step.rt:109:19
 advance-requires : tie.Need-advance-requires
 advance-requires c κs = search needs
 
--- src/step.rt:109:59
 guard-requires : tie.Need-guard-requires
 guard-requires c κs = search needs
 
--- src/step.rt:102:1
 returns : tie.Need-returns
 unfolding coreNext
 returns c =

@@ -1,15 +1,13 @@
+-- `board::step::carried_by` meets its contract.
+-- Assumes nothing.
 use borrow.Author.Tests.{eq-eqb, ne-eqb}
 use mir.Facts.{toZ-ofZ}
 use Rattle.board.proofs.step.carried_by.Statement.{statement}
 use Rattle.board.proofs.step.carried_by.Tie as tie
-use Rattle.board.proofs.step.carried_by.Reads as reads
-use Rattle.board.proofs.step.carried_by.Lts as lts
 
--- src/step.rt:38:1
 returns : tie.Need-returns
 returns c = rw (eq-eqb _ _ (c .if1 .taken), toZ-ofZ (c .before .fits .carry))
 
--- src/step.rt:38:1
 returns-2 : tie.Need-returns-2
 returns-2 c = rw (ne-eqb _ _ (c .if1 .left))
 

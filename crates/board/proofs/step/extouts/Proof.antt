@@ -1,106 +1,81 @@
+-- `board::step::extouts` meets its contract.
+-- Assumes nothing.
 use native.Mathlib.Omega.{arith}
 use Rattle.words.specs.Bits.{word}
 use Rattle.board.specs.Inputs.{extouts}
 use borrow.Author.Needs.{needs}
 use Rattle.board.proofs.step.extouts.Statement.{statement}
 use Rattle.board.proofs.step.extouts.Tie as tie
-use Rattle.board.proofs.step.extouts.Reads as reads
-use Rattle.board.proofs.step.extouts.Lts as lts
-use Rattle.words.proofs.flag.Reads as flag-reads
 
--- src/step.rt:20:27
 element-copy-out-flag : tie.Need-element-copy-out-flag
 element-copy-out-flag c = search needs
 
--- src/step.rt:20:15
 flag-requires : tie.Need-flag-requires
 flag-requires c κs = search needs
 
--- src/step.rt:20:59
 element-copy-out-flag-2 : tie.Need-element-copy-out-flag-2
 element-copy-out-flag-2 c = search needs
 
--- src/step.rt:20:47
 flag-requires-2 : tie.Need-flag-requires-2
 flag-requires-2 c κs = search needs
 
--- src/step.rt:20:43
 mul-low : tie.Need-mul-low
 mul-low c = search needs
 
--- src/step.rt:20:15
 add-low : tie.Need-add-low
 add-low c = search needs
 
--- src/step.rt:20:91
 element-copy-out-flag-3 : tie.Need-element-copy-out-flag-3
 element-copy-out-flag-3 c = search needs
 
--- src/step.rt:20:79
 flag-requires-3 : tie.Need-flag-requires-3
 flag-requires-3 c κs = search needs
 
--- src/step.rt:20:75
 mul-low-2 : tie.Need-mul-low-2
 mul-low-2 c = search needs
 
--- src/step.rt:20:15
 add-low-2 : tie.Need-add-low-2
 add-low-2 c = search needs
 
--- src/step.rt:21:28
 element-copy-out-flag-4 : tie.Need-element-copy-out-flag-4
 element-copy-out-flag-4 c = search needs
 
--- src/step.rt:21:16
 flag-requires-4 : tie.Need-flag-requires-4
 flag-requires-4 c κs = search needs
 
--- src/step.rt:21:60
 element-copy-out-flag-5 : tie.Need-element-copy-out-flag-5
 element-copy-out-flag-5 c = search needs
 
--- src/step.rt:21:48
 flag-requires-5 : tie.Need-flag-requires-5
 flag-requires-5 c κs = search needs
 
--- src/step.rt:21:44
 mul-high : tie.Need-mul-high
 mul-high c = search needs
 
--- src/step.rt:21:16
 add-high : tie.Need-add-high
 add-high c = search needs
 
--- src/step.rt:21:92
 element-copy-out-flag-6 : tie.Need-element-copy-out-flag-6
 element-copy-out-flag-6 c = search needs
 
--- src/step.rt:21:80
 flag-requires-6 : tie.Need-flag-requires-6
 flag-requires-6 c κs = search needs
 
--- src/step.rt:21:76
 mul-high-2 : tie.Need-mul-high-2
 mul-high-2 c = search needs
 
--- src/step.rt:21:16
 add-high-2 : tie.Need-add-high-2
 add-high-2 c = search needs
 
--- src/step.rt:22:12
 mul-result : tie.Need-mul-result
 mul-result c = search needs
 
--- src/step.rt:22:6
 add-result : tie.Need-add-result
 add-result c = search needs
 
--- src/step.rt:22:5
 cast-result : tie.Need-cast-result
 cast-result c = search needs
 
--- src/step.rt:17:1
 returns : tie.Need-returns
 unfolding extouts word
 returns c =

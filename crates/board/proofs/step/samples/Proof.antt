@@ -1,95 +1,70 @@
+-- `board::step::samples` meets its contract.
+-- Assumes nothing.
 use Rattle.board.specs.Inputs.{samplesOf}
 use borrow.Author.Needs.{needs}
 use Rattle.board.proofs.step.samples.Statement.{statement}
 use Rattle.board.proofs.step.samples.Tie as tie
-use Rattle.board.proofs.step.samples.Reads as reads
-use Rattle.board.proofs.step.samples.Lts as lts
-use Rattle.board.proofs.step.index_of.Reads as index-of-reads
-use Rattle.ports.proofs.route_level.Reads as route-level-reads
-use Rattle.words.proofs.bit.Reads as bit-reads
-use Rattle.words.proofs.flag.Reads as flag-reads
 
--- src/step.rt:49:33
 mul-bit : tie.Need-mul-bit
 mul-bit c = search needs
 
--- src/step.rt:49:9
 bit-requires : tie.Need-bit-requires
 bit-requires c κs = search needs
 
--- src/step.rt:50:33
 mul-bit-2 : tie.Need-mul-bit-2
 mul-bit-2 c = search needs
 
--- src/step.rt:50:33
 add-bit : tie.Need-add-bit
 add-bit c = search needs
 
--- src/step.rt:50:9
 bit-requires-2 : tie.Need-bit-requires-2
 bit-requires-2 c κs = search needs
 
--- src/step.rt:51:34
 mul-bit-3 : tie.Need-mul-bit-3
 mul-bit-3 c = search needs
 
--- src/step.rt:51:34
 add-bit-2 : tie.Need-add-bit-2
 add-bit-2 c = search needs
 
--- src/step.rt:51:9
 bit-requires-3 : tie.Need-bit-requires-3
 bit-requires-3 c κs = search needs
 
--- src/step.rt:52:9
 index-of-requires : tie.Need-index-of-requires
 index-of-requires c κs = search needs
 
--- src/step.rt:53:9
 route-level-requires : tie.Need-route-level-requires
 route-level-requires c κs = search needs
 
--- src/step.rt:55:5
 flag-requires : tie.Need-flag-requires
 flag-requires c κs = search needs
 
--- src/step.rt:55:26
 flag-requires-2 : tie.Need-flag-requires-2
 flag-requires-2 c κs = search needs
 
--- src/step.rt:55:22
 mul-result : tie.Need-mul-result
 mul-result c = search needs
 
--- src/step.rt:55:5
 add-result : tie.Need-add-result
 add-result c = search needs
 
--- src/step.rt:55:47
 flag-requires-3 : tie.Need-flag-requires-3
 flag-requires-3 c κs = search needs
 
--- src/step.rt:55:43
 mul-result-2 : tie.Need-mul-result-2
 mul-result-2 c = search needs
 
--- src/step.rt:55:5
 add-result-2 : tie.Need-add-result-2
 add-result-2 c = search needs
 
--- src/step.rt:55:72
 flag-requires-4 : tie.Need-flag-requires-4
 flag-requires-4 c κs = search needs
 
--- src/step.rt:55:68
 mul-result-3 : tie.Need-mul-result-3
 mul-result-3 c = search needs
 
--- src/step.rt:55:5
 add-result-3 : tie.Need-add-result-3
 add-result-3 c = search needs
 
--- src/step.rt:45:1
 returns : tie.Need-returns
 unfolding samplesOf
 returns c =

@@ -1,59 +1,41 @@
+-- `calls::board_calls::board_call` meets its contract.
+-- Assumes nothing.
 use borrow.Author.Tests.{ne-eqb}
 use Rattle.calls.specs.BoardCalls.{boardCall}
 use borrow.Author.Needs.{needs}
 use Rattle.calls.proofs.board_calls.board_call.Statement.{statement}
 use Rattle.calls.proofs.board_calls.board_call.Tie as tie
-use Rattle.calls.proofs.board_calls.board_call.Reads as reads
-use Rattle.calls.proofs.board_calls.board_call.Lts as lts
-use Rattle.calls.proofs.board_calls.control_write.Reads as control-write-reads
-use Rattle.calls.proofs.board_calls.enable_write.Reads as enable-write-reads
-use Rattle.calls.proofs.board_calls.interval_write.Reads as interval-write-reads
-use Rattle.calls.proofs.board_calls.safemode_clear.Reads as safemode-clear-reads
-use Rattle.calls.proofs.board_calls.status.Reads as status-reads
-use Rattle.calls.proofs.board_calls.timestamp_read.Reads as timestamp-read-reads
-use Rattle.calls.proofs.board_calls.watchdog_kick.Reads as watchdog-kick-reads
-use Rattle.calls.proofs.board_calls.writes_write.Reads as writes-write-reads
 
--- src/board_calls.rt:115:15
 control-write-requires : tie.Need-control-write-requires
 control-write-requires c κs = search needs
 
--- src/board_calls.rt:116:15
 writes-write-requires : tie.Need-writes-write-requires
 writes-write-requires c κs = search needs
 
--- src/board_calls.rt:117:15
 safemode-clear-requires : tie.Need-safemode-clear-requires
 safemode-clear-requires c κs = search needs
 
--- src/board_calls.rt:118:15
 interval-write-requires : tie.Need-interval-write-requires
 interval-write-requires c κs = search needs
 
--- src/board_calls.rt:119:15
 enable-write-requires : tie.Need-enable-write-requires
 enable-write-requires c κs = search needs
 
--- src/board_calls.rt:120:15
 watchdog-kick-requires : tie.Need-watchdog-kick-requires
 watchdog-kick-requires c κs = search needs
 
--- src/board_calls.rt:121:15
 timestamp-read-requires : tie.Need-timestamp-read-requires
 timestamp-read-requires c κs = search needs
 
--- src/board_calls.rt:122:14
 status-requires : tie.Need-status-requires
 status-requires c κs = search needs
 
--- src/board_calls.rt:110:1
 returns : tie.Need-returns
 unfolding boardCall
 returns c =
     let c₁ = c .before in
     rw (c .control-write .ensures, c₁ .match .keys1)
 
--- src/board_calls.rt:110:1
 returns-2 : tie.Need-returns-2
 unfolding boardCall
 returns-2 c =
@@ -61,21 +43,18 @@ returns-2 c =
     let c₂ = c₁ .before in
     rw (c .writes-write .ensures, c₂ .match .keys2)
 
--- src/board_calls.rt:110:1
 returns-3 : tie.Need-returns-3
 unfolding boardCall
 returns-3 c =
     let c₁ = c .before in
     rw (c .safemode-clear .ensures, c₁ .match .keys3)
 
--- src/board_calls.rt:110:1
 returns-4 : tie.Need-returns-4
 unfolding boardCall
 returns-4 c =
     let c₁ = c .before in
     rw (c .interval-write .ensures, c₁ .match .keys4)
 
--- src/board_calls.rt:110:1
 returns-5 : tie.Need-returns-5
 unfolding boardCall
 returns-5 c =
@@ -83,21 +62,18 @@ returns-5 c =
     let c₂ = c₁ .before in
     rw (c .enable-write .ensures, c₂ .match .keys5)
 
--- src/board_calls.rt:110:1
 returns-6 : tie.Need-returns-6
 unfolding boardCall
 returns-6 c =
     let c₁ = c .before in
     rw (c .watchdog-kick .ensures, c₁ .match .keys6)
 
--- src/board_calls.rt:110:1
 returns-7 : tie.Need-returns-7
 unfolding boardCall
 returns-7 c =
     let c₁ = c .before in
     rw (c .timestamp-read .ensures, c₁ .match .keys7)
 
--- src/board_calls.rt:110:1
 returns-8 : tie.Need-returns-8
 unfolding boardCall
 returns-8 c =

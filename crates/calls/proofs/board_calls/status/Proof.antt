@@ -1,56 +1,42 @@
+-- `calls::board_calls::status` meets its contract.
+-- Assumes nothing.
 use borrow.Author.Needs.{needs}
 use Rattle.calls.proofs.board_calls.status.Statement.{statement}
 use Rattle.calls.proofs.board_calls.status.Tie as tie
-use Rattle.calls.proofs.board_calls.status.Reads as reads
-use Rattle.calls.proofs.board_calls.status.Lts as lts
-use Rattle.calls.proofs.board_calls.tell.Reads as tell-reads
-use Rattle.words.proofs.flag.Reads as flag-reads
 
--- src/board_calls.rt:102:16
 flag-requires : tie.Need-flag-requires
 flag-requires c κs = search needs
 
--- src/board_calls.rt:103:15
 flag-requires-2 : tie.Need-flag-requires-2
 flag-requires-2 c κs = search needs
 
--- src/board_calls.rt:103:11
 mul-bits : tie.Need-mul-bits
 mul-bits c = search needs
 
--- src/board_calls.rt:102:16
 add-bits : tie.Need-add-bits
 add-bits c = search needs
 
--- src/board_calls.rt:104:15
 flag-requires-3 : tie.Need-flag-requires-3
 flag-requires-3 c κs = search needs
 
--- src/board_calls.rt:104:11
 mul-bits-2 : tie.Need-mul-bits-2
 mul-bits-2 c = search needs
 
--- src/board_calls.rt:102:16
 add-bits-2 : tie.Need-add-bits-2
 add-bits-2 c = search needs
 
--- src/board_calls.rt:105:15
 flag-requires-4 : tie.Need-flag-requires-4
 flag-requires-4 c κs = search needs
 
--- src/board_calls.rt:105:11
 mul-bits-3 : tie.Need-mul-bits-3
 mul-bits-3 c = search needs
 
--- src/board_calls.rt:102:16
 add-bits-3 : tie.Need-add-bits-3
 add-bits-3 c = search needs
 
--- src/board_calls.rt:106:5
 tell-requires : tie.Need-tell-requires
 tell-requires c κs = search needs
 
--- src/board_calls.rt:99:1
 returns : tie.Need-returns
 returns c =
     let c₁ = c .before in

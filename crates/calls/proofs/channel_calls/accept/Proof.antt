@@ -1,15 +1,12 @@
+-- `calls::channel_calls::accept` meets its contract.
+-- Assumes nothing.
 use borrow.Author.Needs.{needs}
 use Rattle.calls.proofs.channel_calls.accept.Statement.{statement}
 use Rattle.calls.proofs.channel_calls.accept.Tie as tie
-use Rattle.calls.proofs.channel_calls.accept.Reads as reads
-use Rattle.calls.proofs.channel_calls.accept.Lts as lts
-use Rattle.calls.proofs.number.Reads as number-reads
 
--- src/channel_calls.rt:20:40
 number-requires : tie.Need-number-requires
 number-requires c κs = search needs
 
--- src/channel_calls.rt:17:1
 returns : tie.Need-returns
 returns c = rw (c .number .ensures)
 

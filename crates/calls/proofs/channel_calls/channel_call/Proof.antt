@@ -1,149 +1,113 @@
+-- `calls::channel_calls::channel_call` meets its contract.
+-- Assumes nothing.
 use borrow.Author.Tests.{ne-eqb}
 use Rattle.calls.specs.ChannelCalls.{channelCall}
 use borrow.Author.Needs.{needs}
 use Rattle.calls.proofs.channel_calls.channel_call.Statement.{statement}
 use Rattle.calls.proofs.channel_calls.channel_call.Tie as tie
-use Rattle.calls.proofs.channel_calls.channel_call.Reads as reads
-use Rattle.calls.proofs.channel_calls.channel_call.Lts as lts
-use Rattle.calls.proofs.channel_calls.compare_write.Reads as compare-write-reads
-use Rattle.calls.proofs.channel_calls.count_read.Reads as count-read-reads
-use Rattle.calls.proofs.channel_calls.halt.Reads as halt-reads
-use Rattle.calls.proofs.channel_calls.mask_write.Reads as mask-write-reads
-use Rattle.calls.proofs.channel_calls.mode_write.Reads as mode-write-reads
-use Rattle.calls.proofs.channel_calls.preload_write.Reads as preload-write-reads
-use Rattle.calls.proofs.channel_calls.route_write.Reads as route-write-reads
-use Rattle.calls.proofs.channel_calls.snapshot.Reads as snapshot-reads
-use Rattle.calls.proofs.channel_calls.snapshot_read.Reads as snapshot-read-reads
-use Rattle.calls.proofs.channel_calls.soft_preload.Reads as soft-preload-reads
-use Rattle.calls.proofs.channel_calls.start.Reads as start-reads
-use Rattle.calls.proofs.channel_calls.status.Reads as status-reads
 
--- src/channel_calls.rt:145:14
 mode-write-requires : tie.Need-mode-write-requires
 mode-write-requires c κs = search needs
 
--- src/channel_calls.rt:146:14
 preload-write-requires : tie.Need-preload-write-requires
 preload-write-requires c κs = search needs
 
--- src/channel_calls.rt:147:14
 compare-write-requires : tie.Need-compare-write-requires
 compare-write-requires c κs = search needs
 
--- src/channel_calls.rt:148:14
 route-write-requires : tie.Need-route-write-requires
 route-write-requires c κs = search needs
 
--- src/channel_calls.rt:149:14
 mask-write-requires : tie.Need-mask-write-requires
 mask-write-requires c κs = search needs
 
--- src/channel_calls.rt:150:14
 start-requires : tie.Need-start-requires
 start-requires c κs = search needs
 
--- src/channel_calls.rt:151:14
 halt-requires : tie.Need-halt-requires
 halt-requires c κs = search needs
 
--- src/channel_calls.rt:152:14
 snapshot-requires : tie.Need-snapshot-requires
 snapshot-requires c κs = search needs
 
--- src/channel_calls.rt:153:14
 soft-preload-requires : tie.Need-soft-preload-requires
 soft-preload-requires c κs = search needs
 
--- src/channel_calls.rt:154:15
 count-read-requires : tie.Need-count-read-requires
 count-read-requires c κs = search needs
 
--- src/channel_calls.rt:155:15
 snapshot-read-requires : tie.Need-snapshot-read-requires
 snapshot-read-requires c κs = search needs
 
--- src/channel_calls.rt:156:14
 status-requires : tie.Need-status-requires
 status-requires c κs = search needs
 
--- src/channel_calls.rt:140:1
 returns : tie.Need-returns
 unfolding channelCall
 returns c =
     let c₁ = c .before in
     rw (c .mode-write .ensures, c₁ .match .keys1)
 
--- src/channel_calls.rt:140:1
 returns-2 : tie.Need-returns-2
 unfolding channelCall
 returns-2 c =
     let c₁ = c .before in
     rw (c .preload-write .ensures, c₁ .match .keys2)
 
--- src/channel_calls.rt:140:1
 returns-3 : tie.Need-returns-3
 unfolding channelCall
 returns-3 c =
     let c₁ = c .before in
     rw (c .compare-write .ensures, c₁ .match .keys3)
 
--- src/channel_calls.rt:140:1
 returns-4 : tie.Need-returns-4
 unfolding channelCall
 returns-4 c =
     let c₁ = c .before in
     rw (c .route-write .ensures, c₁ .match .keys4)
 
--- src/channel_calls.rt:140:1
 returns-5 : tie.Need-returns-5
 unfolding channelCall
 returns-5 c =
     let c₁ = c .before in
     rw (c .mask-write .ensures, c₁ .match .keys5)
 
--- src/channel_calls.rt:140:1
 returns-6 : tie.Need-returns-6
 unfolding channelCall
 returns-6 c =
     let c₁ = c .before in
     rw (c .start .ensures, c₁ .match .keys6)
 
--- src/channel_calls.rt:140:1
 returns-7 : tie.Need-returns-7
 unfolding channelCall
 returns-7 c =
     let c₁ = c .before in
     rw (c .halt .ensures, c₁ .match .keys7)
 
--- src/channel_calls.rt:140:1
 returns-8 : tie.Need-returns-8
 unfolding channelCall
 returns-8 c =
     let c₁ = c .before in
     rw (c .snapshot .ensures, c₁ .match .keys8)
 
--- src/channel_calls.rt:140:1
 returns-9 : tie.Need-returns-9
 unfolding channelCall
 returns-9 c =
     let c₁ = c .before in
     rw (c .soft-preload .ensures, c₁ .match .keys9)
 
--- src/channel_calls.rt:140:1
 returns-10 : tie.Need-returns-10
 unfolding channelCall
 returns-10 c =
     let c₁ = c .before in
     rw (c .count-read .ensures, c₁ .match .keys10)
 
--- src/channel_calls.rt:140:1
 returns-11 : tie.Need-returns-11
 unfolding channelCall
 returns-11 c =
     let c₁ = c .before in
     rw (c .snapshot-read .ensures, c₁ .match .keys11)
 
--- src/channel_calls.rt:140:1
 returns-12 : tie.Need-returns-12
 unfolding channelCall
 returns-12 c =

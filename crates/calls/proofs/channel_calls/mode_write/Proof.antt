@@ -1,26 +1,20 @@
+-- `calls::channel_calls::mode_write` meets its contract.
+-- Assumes nothing.
 use Rattle.calls.specs.ChannelCalls.{modeWrite}
 use borrow.Author.Needs.{needs}
 use Rattle.calls.proofs.channel_calls.mode_write.Statement.{statement}
 use Rattle.calls.proofs.channel_calls.mode_write.Tie as tie
-use Rattle.calls.proofs.channel_calls.mode_write.Reads as reads
-use Rattle.calls.proofs.channel_calls.mode_write.Lts as lts
-use Rattle.calls.proofs.channel_calls.accept.Reads as accept-reads
-use Rattle.calls.proofs.channel_calls.refuse.Reads as refuse-reads
 
--- src/channel_calls.rt:33:9
 refuse-requires : tie.Need-refuse-requires
 refuse-requires c κs = search needs
 
--- src/channel_calls.rt:33:9
 returns : tie.Need-returns
 unfolding modeWrite
 returns c = rw (c .refuse .ensures, c .before .if1 .taken)
 
--- src/channel_calls.rt:38:5
 accept-requires : tie.Need-accept-requires
 accept-requires c κs = search needs
 
--- src/channel_calls.rt:29:1
 returns-2 : tie.Need-returns-2
 unfolding modeWrite
 returns-2 c = rw (c .accept .ensures, c .before .if1 .left)

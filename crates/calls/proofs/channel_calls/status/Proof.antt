@@ -1,44 +1,33 @@
+-- `calls::channel_calls::status` meets its contract.
+-- Assumes nothing.
 use borrow.Author.Needs.{needs}
 use Rattle.calls.proofs.channel_calls.status.Statement.{statement}
 use Rattle.calls.proofs.channel_calls.status.Tie as tie
-use Rattle.calls.proofs.channel_calls.status.Reads as reads
-use Rattle.calls.proofs.channel_calls.status.Lts as lts
-use Rattle.calls.proofs.channel_calls.tell.Reads as tell-reads
-use Rattle.words.proofs.flag.Reads as flag-reads
 
--- src/channel_calls.rt:135:16
 flag-requires : tie.Need-flag-requires
 flag-requires c κs = search needs
 
--- src/channel_calls.rt:135:45
 flag-requires-2 : tie.Need-flag-requires-2
 flag-requires-2 c κs = search needs
 
--- src/channel_calls.rt:135:41
 mul-bits : tie.Need-mul-bits
 mul-bits c = search needs
 
--- src/channel_calls.rt:135:16
 add-bits : tie.Need-add-bits
 add-bits c = search needs
 
--- src/channel_calls.rt:135:72
 flag-requires-3 : tie.Need-flag-requires-3
 flag-requires-3 c κs = search needs
 
--- src/channel_calls.rt:135:68
 mul-bits-2 : tie.Need-mul-bits-2
 mul-bits-2 c = search needs
 
--- src/channel_calls.rt:135:16
 add-bits-2 : tie.Need-add-bits-2
 add-bits-2 c = search needs
 
--- src/channel_calls.rt:136:5
 tell-requires : tie.Need-tell-requires
 tell-requires c κs = search needs
 
--- src/channel_calls.rt:132:1
 returns : tie.Need-returns
 returns c =
     let c₁ = c .before in

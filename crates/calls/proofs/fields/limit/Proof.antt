@@ -1,3 +1,5 @@
+-- `calls::fields::limit` meets its contract.
+-- Assumes nothing.
 use mathlib.Core.Path.{sym}
 use lib.ListN.{List·getD-eq-default}
 use Rattle.calls.specs.Fields.{limits}
@@ -6,23 +8,17 @@ use Rattle.calls.specs.Fields.{limit}
 use borrow.Author.Needs.{needs}
 use Rattle.calls.proofs.fields.limit.Statement.{statement}
 use Rattle.calls.proofs.fields.limit.Tie as tie
-use Rattle.calls.proofs.fields.limit.Reads as reads
-use Rattle.calls.proofs.fields.limit.Lts as lts
 
--- src/fields.rt:19:18
 mul-result : tie.Need-mul-result
 mul-result c = search needs
 
--- src/fields.rt:19:18
 array-read-result : tie.Need-array-read-result
 array-read-result c = search needs
 
--- src/fields.rt:15:1
 returns : tie.Need-returns
 unfolding limit limits
 returns c = refl
 
--- src/fields.rt:15:1
 returns-2 : tie.Need-returns-2
 unfolding limit limits
 returns-2 c = sym (List·getD-eq-default limits 0 (c .if1 .left))

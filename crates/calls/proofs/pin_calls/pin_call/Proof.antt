@@ -1,44 +1,32 @@
+-- `calls::pin_calls::pin_call` meets its contract.
+-- Assumes nothing.
 use borrow.Author.Tests.{ne-eqb}
 use Rattle.calls.specs.PinCalls.{pinCall}
 use borrow.Author.Needs.{needs}
 use Rattle.calls.proofs.pin_calls.pin_call.Statement.{statement}
 use Rattle.calls.proofs.pin_calls.pin_call.Tie as tie
-use Rattle.calls.proofs.pin_calls.pin_call.Reads as reads
-use Rattle.calls.proofs.pin_calls.pin_call.Lts as lts
-use Rattle.calls.proofs.pin_calls.data_write.Reads as data-write-reads
-use Rattle.calls.proofs.pin_calls.level_read.Reads as level-read-reads
-use Rattle.calls.proofs.pin_calls.safe_data_write.Reads as safe-data-write-reads
-use Rattle.calls.proofs.pin_calls.safe_enable_write.Reads as safe-enable-write-reads
-use Rattle.calls.proofs.pin_calls.source_write.Reads as source-write-reads
 
--- src/pin_calls.rt:66:15
 source-write-requires : tie.Need-source-write-requires
 source-write-requires c κs = search needs
 
--- src/pin_calls.rt:67:15
 data-write-requires : tie.Need-data-write-requires
 data-write-requires c κs = search needs
 
--- src/pin_calls.rt:68:15
 safe-data-write-requires : tie.Need-safe-data-write-requires
 safe-data-write-requires c κs = search needs
 
--- src/pin_calls.rt:69:15
 safe-enable-write-requires : tie.Need-safe-enable-write-requires
 safe-enable-write-requires c κs = search needs
 
--- src/pin_calls.rt:70:14
 level-read-requires : tie.Need-level-read-requires
 level-read-requires c κs = search needs
 
--- src/pin_calls.rt:61:1
 returns : tie.Need-returns
 unfolding pinCall
 returns c =
     let c₁ = c .before in
     rw (c .source-write .ensures, c₁ .match .keys1)
 
--- src/pin_calls.rt:61:1
 returns-2 : tie.Need-returns-2
 unfolding pinCall
 returns-2 c =
@@ -46,7 +34,6 @@ returns-2 c =
     let c₂ = c₁ .before in
     rw (c .data-write .ensures, c₂ .match .keys2)
 
--- src/pin_calls.rt:61:1
 returns-3 : tie.Need-returns-3
 unfolding pinCall
 returns-3 c =
@@ -54,7 +41,6 @@ returns-3 c =
     let c₂ = c₁ .before in
     rw (c .safe-data-write .ensures, c₂ .match .keys3)
 
--- src/pin_calls.rt:61:1
 returns-4 : tie.Need-returns-4
 unfolding pinCall
 returns-4 c =
@@ -62,7 +48,6 @@ returns-4 c =
     let c₂ = c₁ .before in
     rw (c .safe-enable-write .ensures, c₂ .match .keys4)
 
--- src/pin_calls.rt:61:1
 returns-5 : tie.Need-returns-5
 unfolding pinCall
 returns-5 c =

@@ -1,23 +1,18 @@
+-- `calls::pin_calls::safe_data_write` meets its contract.
+-- Assumes nothing.
 use borrow.Author.Needs.{needs}
 use Rattle.calls.proofs.pin_calls.safe_data_write.Statement.{statement}
 use Rattle.calls.proofs.pin_calls.safe_data_write.Tie as tie
-use Rattle.calls.proofs.pin_calls.safe_data_write.Reads as reads
-use Rattle.calls.proofs.pin_calls.safe_data_write.Lts as lts
-use Rattle.calls.proofs.pin_calls.accept.Reads as accept-reads
 
--- src/pin_calls.rt:40:9
 accept-requires : tie.Need-accept-requires
 accept-requires c κs = search needs
 
--- src/pin_calls.rt:40:9
 returns : tie.Need-returns
 returns c = rw (c .accept .ensures, c .before .if1 .taken)
 
--- src/pin_calls.rt:42:5
 accept-requires-2 : tie.Need-accept-requires-2
 accept-requires-2 c κs = search needs
 
--- src/pin_calls.rt:34:1
 returns-2 : tie.Need-returns-2
 returns-2 c = rw (c .accept2 .ensures, c .before .if1 .left)
 

@@ -1,15 +1,12 @@
+-- `calls::virtual_calls::accept` meets its contract.
+-- Assumes nothing.
 use borrow.Author.Needs.{needs}
 use Rattle.calls.proofs.virtual_calls.accept.Statement.{statement}
 use Rattle.calls.proofs.virtual_calls.accept.Tie as tie
-use Rattle.calls.proofs.virtual_calls.accept.Reads as reads
-use Rattle.calls.proofs.virtual_calls.accept.Lts as lts
-use Rattle.calls.proofs.number.Reads as number-reads
 
--- src/virtual_calls.rt:15:39
 number-requires : tie.Need-number-requires
 number-requires c κs = search needs
 
--- src/virtual_calls.rt:12:1
 returns : tie.Need-returns
 returns c = rw (c .number .ensures)
 

@@ -1,16 +1,14 @@
+-- `control::Clock::repair` meets its contract.
+-- Assumes nothing.
 use borrow.Author.Tests.{lt-ltb, le-ltb}
 use Rattle.control.specs.Clock.{repairedClock}
 use Rattle.control.proofs.Clock.repair.Statement.{statement}
 use Rattle.control.proofs.Clock.repair.Tie as tie
-use Rattle.control.proofs.Clock.repair.Reads as reads
-use Rattle.control.proofs.Clock.repair.Lts as lts
 
--- src/lib.rt:56:5
 returns : tie.Need-returns
 unfolding repairedClock
 returns c = simp (le-ltb _ _ (c .if1 .taken))
 
--- src/lib.rt:56:5
 returns-2 : tie.Need-returns-2
 unfolding repairedClock
 returns-2 c = simp (lt-ltb _ _ (c .if1 .left))

@@ -1,26 +1,19 @@
+-- `control::Core::repair` meets its contract.
+-- Assumes nothing.
 use Rattle.control.specs.Whole.{repairedCore}
 use borrow.Author.Needs.{needs}
 use Rattle.control.proofs.Core.repair.Statement.{statement}
 use Rattle.control.proofs.Core.repair.Tie as tie
-use Rattle.control.proofs.Core.repair.Reads as reads
-use Rattle.control.proofs.Core.repair.Lts as lts
-use Rattle.control.proofs.Clock.repair.Reads as Clock-repair-reads
-use Rattle.control.proofs.Safety.repair.Reads as Safety-repair-reads
-use Rattle.control.proofs.Watchdog.repair.Reads as Watchdog-repair-reads
 
--- src/lib.rt:165:23
 repair-requires : tie.Need-repair-requires
 repair-requires c κs = search needs
 
--- src/lib.rt:165:49
 repair-requires-2 : tie.Need-repair-requires-2
 repair-requires-2 c κs = search needs
 
--- src/lib.rt:165:76
 repair-requires-3 : tie.Need-repair-requires-3
 repair-requires-3 c κs = search needs
 
--- src/lib.rt:159:5
 returns : tie.Need-returns
 unfolding repairedCore
 returns c =

@@ -1,18 +1,16 @@
+-- `control::Watchdog::repair` meets its contract.
+-- Assumes nothing.
 use Prim.Native.Nat.{_<_}
-use borrow.Author.Tests.{lt-ltb, le-ltb}
+use borrow.Author.Tests.{lt-ltb}
 use native.Mathlib.Omega.{arith}
 use Rattle.control.specs.Watchdog.{repairedWatchdog}
 use Rattle.control.proofs.Watchdog.repair.Statement.{statement}
 use Rattle.control.proofs.Watchdog.repair.Tie as tie
-use Rattle.control.proofs.Watchdog.repair.Reads as reads
-use Rattle.control.proofs.Watchdog.repair.Lts as lts
 
--- src/lib.rt:126:5
 returns : tie.Need-returns
 unfolding repairedWatchdog
 returns c = simp (c .if1 .taken)
 
--- src/lib.rt:126:5
 returns-2 : tie.Need-returns-2
 unfolding repairedWatchdog
 returns-2 c = let h : 0 < c .before .before .args .self .interval = omega (arith, c .if1 .left) in simp (lt-ltb 0 _ h)

@@ -1,26 +1,21 @@
+-- `control::Watchdog::switch` meets its contract.
+-- Assumes nothing.
 use Rattle.control.specs.Watchdog.{switched}
 use borrow.Author.Needs.{needs}
 use Rattle.control.proofs.Watchdog.switch.Statement.{statement}
 use Rattle.control.proofs.Watchdog.switch.Tie as tie
-use Rattle.control.proofs.Watchdog.switch.Reads as reads
-use Rattle.control.proofs.Watchdog.switch.Lts as lts
-use Rattle.control.proofs.Watchdog.kick.Reads as kick-reads
 
--- src/lib.rt:121:17
 returns : tie.Need-returns
 unfolding switched
 returns c = rw (c .before .if1 .taken, c .if2 .taken)
 
--- src/lib.rt:124:13
 kick-requires : tie.Need-kick-requires
 kick-requires c κs = search needs
 
--- src/lib.rt:124:13
 returns-2 : tie.Need-returns-2
 unfolding switched
 returns-2 c = rw (c .kick .ensures, c .before .before .if1 .taken, c .before .if2 .left)
 
--- src/lib.rt:116:5
 returns-3 : tie.Need-returns-3
 unfolding switched
 returns-3 c = rw (c .if1 .left)

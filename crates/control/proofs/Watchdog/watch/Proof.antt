@@ -1,26 +1,22 @@
+-- `control::Watchdog::watch` meets its contract.
+-- Assumes nothing.
 use borrow.Author.Tests.{lt-ltb, le-ltb}
 use Rattle.control.specs.Watchdog.{watched}
 use borrow.Author.Needs.{needs}
 use Rattle.control.proofs.Watchdog.watch.Statement.{statement}
 use Rattle.control.proofs.Watchdog.watch.Tie as tie
-use Rattle.control.proofs.Watchdog.watch.Reads as reads
-use Rattle.control.proofs.Watchdog.watch.Lts as lts
 
--- src/lib.rt:100:29
 sub-self : tie.Need-sub-self
 sub-self c = search needs
 
--- src/lib.rt:94:5
 returns : tie.Need-returns
 unfolding watched
 returns c = simp (c .before .before .before .before .before .if1 .taken, lt-ltb _ _ (c .before .before .before .if2 .taken))
 
--- src/lib.rt:94:5
 returns-2 : tie.Need-returns-2
 unfolding watched
 returns-2 c = rw (c .before .before .if1 .taken, le-ltb _ _ (c .if2 .left))
 
--- src/lib.rt:94:5
 returns-3 : tie.Need-returns-3
 unfolding watched
 returns-3 c = rw (c .if1 .left)

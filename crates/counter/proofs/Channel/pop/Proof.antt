@@ -20,11 +20,12 @@ less-one-requires c κs = search needs
 returns : tie.Need-returns
 unfolding popped
 returns c =
-    simp
-    (c .less-one .ensures,
-    c .before .shift3 .ensures,
-    c .before .before .shift2 .ensures,
-    c .before .before .before .shift .ensures)
+    simp (
+      c .less-one .ensures,
+      c .before .shift3 .ensures,
+      c .before .before .shift2 .ensures,
+      c .before .before .before .shift .ensures,
+    )
 
 pub pop-spec : {M : Type 1} → statement M
 pop-spec =

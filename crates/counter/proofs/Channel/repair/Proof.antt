@@ -36,16 +36,17 @@ returns c =
     let carry = back (c .before .before .before .before .before .before .before .before .before .before .args .self .carry) (search needs) in
     let k = c .before .before .before in
     let m = k .before .before .before .before in
-    simp
-    (c .below4 .ensures,
-    c .before .in-reasons .ensures,
-    k .in-carry .ensures,
-    carry,
-    k .before .before .below3 .ensures,
-    k .before .before .before .below2 .ensures,
-    m .below .ensures,
-    m .before .pick .ensures,
-    m .before .before .is-good .ensures)
+    simp (
+      c .below4 .ensures,
+      c .before .in-reasons .ensures,
+      k .in-carry .ensures,
+      carry,
+      k .before .before .below3 .ensures,
+      k .before .before .before .below2 .ensures,
+      m .below .ensures,
+      m .before .pick .ensures,
+      m .before .before .is-good .ensures,
+    )
 
 pub repair-spec : {M : Type 1} → statement M
 repair-spec =

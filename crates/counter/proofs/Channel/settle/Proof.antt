@@ -13,10 +13,11 @@ capture-requires c κs = search needs
 returns : tie.Need-returns
 unfolding settled
 returns c =
-    simp
-    (c .capture .ensures,
-    ne-eqb _ _ (c .before .if1 .taken),
-    back (c .before .before .before .before .args .n .carry) (search needs))
+    simp (
+      c .capture .ensures,
+      ne-eqb _ _ (c .before .if1 .taken),
+      back (c .before .before .before .before .args .n .carry) (search needs),
+    )
 
 returns-2 : tie.Need-returns-2
 unfolding settled

@@ -48,28 +48,31 @@ returns-4 c = rw (c .match .keys4)
 returns-5 : tie.Need-returns-5
 unfolding clocked
 returns-5 c =
-    rw
-    (back (c .sign .result) (c .sign .ok),
-    c .sign .ensures,
-    toZ-ofZ (c .before .before .fits .carried),
-    c .before .match .keys5)
+    rw (
+      back (c .sign .result) (c .sign .ok),
+      c .sign .ensures,
+      toZ-ofZ (c .before .before .fits .carried),
+      c .before .match .keys5,
+    )
 
 returns-6 : tie.Need-returns-6
 unfolding clocked
 returns-6 c =
     let r = c .before .before .before .match .rest in
-    rw
-    (back (c .gate .result) (c .gate .ok),
-    c .gate .ensures,
-    back (c .before .turned .result) (c .before .turned .ok),
-    c .before .turned .ensures,
-    c .before .before .keeps .ensures)
-    (simp
-    (ne-eqb _ _ (r .1),
-    ne-eqb _ _ (r .0 .1),
-    ne-eqb _ _ (r .0 .0 .1),
-    ne-eqb _ _ (r .0 .0 .0 .1),
-    ne-eqb _ _ (r .0 .0 .0 .0 .1)))
+    rw (
+      back (c .gate .result) (c .gate .ok),
+      c .gate .ensures,
+      back (c .before .turned .result) (c .before .turned .ok),
+      c .before .turned .ensures,
+      c .before .before .keeps .ensures,
+    )
+    (simp (
+      ne-eqb _ _ (r .1),
+      ne-eqb _ _ (r .0 .1),
+      ne-eqb _ _ (r .0 .0 .1),
+      ne-eqb _ _ (r .0 .0 .0 .1),
+      ne-eqb _ _ (r .0 .0 .0 .0 .1),
+    ))
 
 pub clocked-spec : {M : Type 1} → statement M
 clocked-spec =

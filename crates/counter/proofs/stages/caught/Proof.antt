@@ -32,12 +32,13 @@ masked-requires c κs = search needs
 returns : tie.Need-returns
 unfolding caughtOf
 returns c =
-    rw
-    (c .masked .ensures,
-    c .before .flag .ensures .0,
-    c .before .before .errs .ensures,
-    c .before .before .before .edge-reasons .ensures .0,
-    c .before .before .before .before .match-reasons .ensures .0)
+    rw (
+      c .masked .ensures,
+      c .before .flag .ensures .0,
+      c .before .before .errs .ensures,
+      c .before .before .before .edge-reasons .ensures .0,
+      c .before .before .before .before .match-reasons .ensures .0,
+    )
 
 pub caught-spec : {M : Type 1} → statement M
 caught-spec =

@@ -28,16 +28,17 @@ unfolding difference
 returns c =
     let u = c .before .reversed in
     let k = c .before .before in
-    rw
-    (back (c .gate .result) (c .gate .ok),
-    c .gate .ensures,
-    back (u .result) (u .ok),
-    u .ensures,
-    back (k .clocked .result) (k .clocked .ok),
-    k .clocked .ensures,
-    k .before .counts .ensures,
-    k .before .before .armed-by-edge .ensures,
-    toZ-ofZ (k .before .before .before .fits .carried))
+    rw (
+      back (c .gate .result) (c .gate .ok),
+      c .gate .ensures,
+      back (u .result) (u .ok),
+      u .ensures,
+      back (k .clocked .result) (k .clocked .ok),
+      k .clocked .ensures,
+      k .before .counts .ensures,
+      k .before .before .armed-by-edge .ensures,
+      toZ-ofZ (k .before .before .before .fits .carried),
+    )
 
 pub difference-spec : {M : Type 1} → statement M
 difference-spec =

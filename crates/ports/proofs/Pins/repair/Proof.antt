@@ -1,45 +1,34 @@
+-- `ports::Pins::repair` meets its contract.
+-- Assumes nothing.
 use Rattle.ports.specs.Pins.{repairedPins, pinAt}
 use borrow.Author.Needs.{needs}
 use Rattle.ports.proofs.Pins.repair.Statement.{statement}
 use Rattle.ports.proofs.Pins.repair.Tie as tie
-use Rattle.ports.proofs.Pins.repair.Reads as reads
-use Rattle.ports.proofs.Pins.repair.Lts as lts
-use Rattle.ports.proofs.mended.Reads as mended-reads
-use Rattle.words.proofs.cut.Reads as cut-reads
 
--- src/lib.rt:150:20
 cut-requires : tie.Need-cut-requires
 cut-requires c κs = search needs
 
--- src/lib.rt:151:21
 cut-requires-2 : tie.Need-cut-requires-2
 cut-requires-2 c κs = search needs
 
--- src/lib.rt:152:18
 cut-requires-3 : tie.Need-cut-requires-3
 cut-requires-3 c κs = search needs
 
--- src/lib.rt:153:23
 cut-requires-4 : tie.Need-cut-requires-4
 cut-requires-4 c κs = search needs
 
--- src/lib.rt:154:25
 cut-requires-5 : tie.Need-cut-requires-5
 cut-requires-5 c κs = search needs
 
--- src/lib.rt:155:22
 mended-requires : tie.Need-mended-requires
 mended-requires c κs = search needs
 
--- src/lib.rt:156:22
 mended-requires-2 : tie.Need-mended-requires-2
 mended-requires-2 c κs = search needs
 
--- src/lib.rt:157:22
 mended-requires-3 : tie.Need-mended-requires-3
 mended-requires-3 c κs = search needs
 
--- src/lib.rt:146:5
 returns : tie.Need-returns
 unfolding repairedPins pinAt
 returns c =

@@ -1,16 +1,13 @@
+-- `ports::Pins::sense` meets its contract.
+-- Assumes nothing.
 use Rattle.ports.specs.Pins.{sensedWith, pinLevel, pinAt}
 use borrow.Author.Needs.{needs}
 use Rattle.ports.proofs.Pins.sense.Statement.{statement}
 use Rattle.ports.proofs.Pins.sense.Tie as tie
-use Rattle.ports.proofs.Pins.sense.Reads as reads
-use Rattle.ports.proofs.Pins.sense.Lts as lts
-use Rattle.words.proofs.either.Reads as either-reads
 
--- src/lib.rt:132:9
 either-requires : tie.Need-either-requires
 either-requires c κs = search needs
 
--- src/lib.rt:129:5
 returns : tie.Need-returns
 unfolding sensedWith pinLevel pinAt
 returns c = rw (c .either .ensures)
