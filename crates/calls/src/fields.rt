@@ -6,36 +6,36 @@ use crate::Event;
 
 // V is below this, kind by kind.
 const LIMITS: [u64; 30] = [
-    262144,
-    268435456,
-    4294967296,
-    4294967296,
-    55,
-    512,
-    1,
-    1,
-    1,
-    1,
-    1,
-    1,
-    1,
-    7,
-    2,
-    2,
-    2,
-    1,
-    2,
-    2,
-    2,
-    1,
-    8,
-    2,
-    1,
-    4294967296,
-    2,
-    1,
-    1,
-    1,
+    262144, // 0 step
+    268435456, // 1 mode write
+    4294967296, // 2 preload write
+    4294967296, // 3 compare write
+    55, // 4 route
+    512, // 5 mask
+    1, // 6 start
+    1, // 7 halt
+    1, // 8 soft snapshot
+    1, // 9 soft preload
+    1, // 10 count read
+    1, // 11 snapshot read
+    1, // 12 status
+    7, // 13 source
+    2, // 14 data
+    2, // 15 safe data
+    2, // 16 safe enable
+    1, // 17 read
+    2, // 18 data
+    2, // 19 safe data
+    2, // 20 safe enable
+    1, // 21 data read
+    8, // 22 control
+    2, // 23 SWE
+    1, // 24 clear safemode
+    4294967296, // 25 interval
+    2, // 26 watchdog enable
+    1, // 27 kick
+    1, // 28 timestamp
+    1, // 29 status
 ];
 
 // The limit of V, 0 for an unknown kind.
