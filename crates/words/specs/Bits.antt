@@ -1,6 +1,6 @@
 -- The bits of a number, and the number of given bits.
 -- Assumes nothing.
-use mathlib.Core.Bool.{Bool, true, false, _&&_}
+use mathlib.Core.Bool.{Bool, true, false}
 use Prim.Native.Nat.{ℕ, zero, suc, _+_, _*_, _/_, _%_, _^_}
 use lib.Dec.{eqb}
 
@@ -20,7 +20,3 @@ flag false = 0
 unfoldable pub word : ℕ → (ℕ → Bool) → ℕ
 word zero f = 0
 word (suc n) f = flag (f zero) + 2 * word n (λ i. f (suc i))
-
--- v with the bits outside `keep`, and all from n on, put to 0
-unfoldable pub keepBits : ℕ → (ℕ → Bool) → ℕ → ℕ
-keepBits n keep v = word n (λ i. keep i && bit v i)
