@@ -8,6 +8,7 @@ use crate::Outcome;
 use calls::Event;
 use counter::Channel;
 
+// A channel handed in.
 fn repair_channel(c: Channel) -> Channel
     ensures { λ r. ⌜ r ≡ repaired c ⌝ }
 {
@@ -44,7 +45,7 @@ impl Board {
         ensures { λ r. ⌜ r ≡ lostCleared member self ⌝ }
     {
         let m = member as usize;
-        if m < 6 {
+        if m < crate::CHANNELS {
             let mut c = self.channels[m];
             c.lost = 0;
             self.channels[m] = c;

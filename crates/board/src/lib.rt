@@ -14,6 +14,9 @@ pub use entry::reset;
 use ports::Pins;
 use ports::Virtuals;
 
+// The number of channels.
+const CHANNELS: usize = 6;
+
 #[repr(C)]
 pub struct Board {
     pub channels: [Channel; 6],

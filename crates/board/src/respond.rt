@@ -8,6 +8,7 @@ use crate::Outcome;
 use calls::Event;
 
 impl Board {
+    // An event that changes nothing is answered with its result.
     fn refuse(self, result: u32) -> Outcome
         ensures { λ r. ⌜ r ≡ outcome (refuse result self) ⌝ }
     {
@@ -17,6 +18,7 @@ impl Board {
         }
     }
 
+    // Kind 0.
     fn step_event(self, e: Event) -> Outcome
         ensures { λ r. ⌜ r ≡ outcome (respondBy stepped step self e) ⌝ }
     {
@@ -29,11 +31,12 @@ impl Board {
         self.refuse(3)
     }
 
+    // Calls 1 to 12.
     fn channel_event(mut self, e: Event) -> Outcome
         ensures { λ r. ⌜ r ≡ outcome (respondBy stepped channel self e) ⌝ }
     {
         let m = e.member as usize;
-        if 6 <= m {
+        if crate::CHANNELS <= m {
             return self.refuse(1);
         }
         if calls::fits(e) {
@@ -50,11 +53,12 @@ impl Board {
         self.refuse(3)
     }
 
+    // Calls 13 to 17.
     fn pin_event(mut self, e: Event) -> Outcome
         ensures { λ r. ⌜ r ≡ outcome (respondBy stepped pin self e) ⌝ }
     {
         let m = e.member as u64;
-        if 48 <= m {
+        if ports::PINS <= m {
             return self.refuse(1);
         }
         if calls::fits(e) {
@@ -71,11 +75,12 @@ impl Board {
         self.refuse(3)
     }
 
+    // Calls 18 to 21.
     fn virtual_event(mut self, e: Event) -> Outcome
         ensures { λ r. ⌜ r ≡ outcome (respondBy stepped virtual self e) ⌝ }
     {
         let m = e.member as u64;
-        if 6 <= m {
+        if ports::VIRTUALS <= m {
             return self.refuse(1);
         }
         if calls::fits(e) {
@@ -92,6 +97,7 @@ impl Board {
         self.refuse(3)
     }
 
+    // Calls 22 to 29.
     fn board_event(mut self, e: Event) -> Outcome
         ensures { λ r. ⌜ r ≡ outcome (respondBy stepped board self e) ⌝ }
     {

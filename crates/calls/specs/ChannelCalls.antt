@@ -1,6 +1,7 @@
 -- Document 01, "One event", calls 1 to 12, each on the channel's own record. The field checks are past.
 -- Assumes nothing.
 use mathlib.Core.Bool.{false, cond}
+use mathlib.Core.List.{List}
 use Prim.Native.Nat.{ℕ, _+_, _*_}
 use lib.Dec.{eqb, ltb}
 use lib.ListN.{getD, set}
@@ -16,13 +17,17 @@ use Rattle.calls.specs.declared.Event.{Event}
 unfoldable pub modeWrite : ℕ → Channel → Reply Channel
 modeWrite v c = cond (c .running) (refuse 4 c) (accept (withMode v c))
 
--- 2 preload write, to the register that the selector names
-unfoldable pub preloadWrite : ℕ → ℕ → Channel → Reply Channel
-preloadWrite s v c = accept (withPreloads (set (c .preloads) (cond (eqb s 0) 0 1) v) c)
+-- a pair of registers with v in the one that the selector names
+unfoldable pub registerWrite : ℕ → ℕ → List ℕ → List ℕ
+registerWrite s v l = set l (cond (eqb s 0) 0 1) v
+
+-- 2 preload write
+abbrev pub preloadWrite : ℕ → ℕ → Channel → Reply Channel
+preloadWrite s v c = accept (withPreloads (registerWrite s v (c .preloads)) c)
 
 -- 3 compare write
-unfoldable pub compareWrite : ℕ → ℕ → Channel → Reply Channel
-compareWrite s v c = accept (withCompares (set (c .compares) (cond (eqb s 0) 0 1) v) c)
+abbrev pub compareWrite : ℕ → ℕ → Channel → Reply Channel
+compareWrite s v c = accept (withCompares (registerWrite s v (c .compares)) c)
 
 -- 4 ExtIn route: 4 while running
 unfoldable pub routeWrite : ℕ → Channel → Reply Channel

@@ -12,6 +12,7 @@ use control::Core;
 use control::Safety;
 use control::Watchdog;
 
+// The call is refused, and the board's part stays as it was.
 fn refuse(k: Core, result: u32) -> CoreReply
     ensures { λ r. ⌜ r ≡ coreReply (refuse result k) ⌝ }
 {
@@ -21,6 +22,7 @@ fn refuse(k: Core, result: u32) -> CoreReply
     }
 }
 
+// The call is accepted and tells a value.
 fn tell(k: Core, value: u32) -> CoreReply
     ensures { λ r. ⌜ r ≡ coreReply (tell value k) ⌝ }
 {
@@ -30,6 +32,7 @@ fn tell(k: Core, value: u32) -> CoreReply
     }
 }
 
+// The call is accepted with another watchdog.
 fn with_watchdog(k: Core, d: Watchdog) -> CoreReply
     ensures { λ r. ⌜ r ≡ coreReply (accept (withWatchdog d k)) ⌝ }
 {
@@ -41,6 +44,7 @@ fn with_watchdog(k: Core, d: Watchdog) -> CoreReply
     }
 }
 
+// The call is accepted with another safety.
 fn with_safety(k: Core, s: Safety) -> CoreReply
     ensures { λ r. ⌜ r ≡ coreReply (accept (withSafety s k)) ⌝ }
 {
@@ -52,6 +56,7 @@ fn with_safety(k: Core, s: Safety) -> CoreReply
     }
 }
 
+// Call 22.
 fn control_write(k: Core, v: u32) -> CoreReply
     ensures { λ r. ⌜ r ≡ coreReply (accept (withSafety (withControl v (k .safety)) k)) ⌝ }
 {
@@ -60,7 +65,8 @@ fn control_write(k: Core, v: u32) -> CoreReply
     with_safety(k, s)
 }
 
-fn writes_write(k: Core, v: bool) -> CoreReply
+// Call 23.
+fn swe_write(k: Core, v: bool) -> CoreReply
     ensures { λ r. ⌜ r ≡ coreReply (accept (withSafety (withWrites v (k .safety)) k)) ⌝ }
 {
     let mut s = k.safety;
@@ -68,6 +74,7 @@ fn writes_write(k: Core, v: bool) -> CoreReply
     with_safety(k, s)
 }
 
+// Call 24.
 fn safemode_clear(k: Core) -> CoreReply
     ensures { λ r. ⌜ r ≡ coreReply (accept (withSafety (withSafemode false (k .safety)) k)) ⌝ }
 {
@@ -76,6 +83,7 @@ fn safemode_clear(k: Core) -> CoreReply
     with_safety(k, s)
 }
 
+// Call 25.
 fn interval_write(k: Core, v: u32) -> CoreReply
     ensures { λ r. ⌜ r ≡ coreReply (intervalWrite v k) ⌝ }
 {
@@ -87,6 +95,7 @@ fn interval_write(k: Core, v: u32) -> CoreReply
     with_watchdog(k, d)
 }
 
+// Call 26.
 fn enable_write(k: Core, on: bool) -> CoreReply
     ensures { λ r. ⌜ r ≡ coreReply (accept (withWatchdog (switched on (k .watchdog)) k)) ⌝ }
 {
@@ -94,6 +103,7 @@ fn enable_write(k: Core, on: bool) -> CoreReply
     with_watchdog(k, d.switch(on))
 }
 
+// Call 27.
 fn watchdog_kick(k: Core) -> CoreReply
     ensures { λ r. ⌜ r ≡ coreReply (accept (withWatchdog (kicked (k .watchdog)) k)) ⌝ }
 {
@@ -101,12 +111,14 @@ fn watchdog_kick(k: Core) -> CoreReply
     with_watchdog(k, d.kick())
 }
 
+// Call 28.
 fn timestamp_read(k: Core) -> CoreReply
     ensures { λ r. ⌜ r ≡ coreReply (tell (k .clock .timestamp) k) ⌝ }
 {
     tell(k, k.clock.timestamp)
 }
 
+// Call 29.
 fn status(k: Core) -> CoreReply
     ensures { λ r. ⌜ r ≡ coreReply (boardStatus k) ⌝ }
 {
@@ -124,7 +136,7 @@ pub fn board_call(e: Event, k: Core) -> CoreReply
     let kind = e.kind;
     match kind {
         22 => control_write(k, e.v),
-        23 => writes_write(k, e.v == 1),
+        23 => swe_write(k, e.v == 1),
         24 => safemode_clear(k),
         25 => interval_write(k, e.v),
         26 => enable_write(k, e.v == 1),

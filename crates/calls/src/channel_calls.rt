@@ -1,12 +1,13 @@
 // Calls 1 to 12, on the channel's own record.
 ghost use mathlib.Core.Path.{_≡_};
 ghost use Rattle.calls.specs.Reply.{channelReply, refuse, accept, tell};
-ghost use Rattle.calls.specs.ChannelCalls.{modeWrite, preloadWrite, compareWrite, routeWrite, maskWrite, start, halt, snapshot, softPreload, countRead, snapshotRead, channelStatus, channelCall};
+ghost use Rattle.calls.specs.ChannelCalls.{modeWrite, registerWrite, preloadWrite, compareWrite, routeWrite, maskWrite, start, halt, snapshot, softPreload, countRead, snapshotRead, channelStatus, channelCall};
 use crate::Answer;
 use crate::ChannelReply;
 use crate::Event;
 use counter::Channel;
 
+// The call is refused, and the channel stays as it was.
 fn refuse(c: Channel, result: u32) -> ChannelReply
     ensures { λ r. ⌜ r ≡ channelReply (refuse result c) ⌝ }
 {
@@ -16,6 +17,7 @@ fn refuse(c: Channel, result: u32) -> ChannelReply
     }
 }
 
+// The call is accepted, and the channel is now `c`.
 fn accept(c: Channel) -> ChannelReply
     ensures { λ r. ⌜ r ≡ channelReply (accept c) ⌝ }
 {
@@ -25,6 +27,7 @@ fn accept(c: Channel) -> ChannelReply
     }
 }
 
+// The call is accepted and tells a value.
 fn tell(c: Channel, value: u32) -> ChannelReply
     ensures { λ r. ⌜ r ≡ channelReply (tell value c) ⌝ }
 {
@@ -34,6 +37,7 @@ fn tell(c: Channel, value: u32) -> ChannelReply
     }
 }
 
+// Call 1.
 fn mode_write(c: Channel, v: u32) -> ChannelReply
     ensures { λ r. ⌜ r ≡ channelReply (modeWrite v c) ⌝ }
 {
@@ -46,30 +50,42 @@ fn mode_write(c: Channel, v: u32) -> ChannelReply
     accept(n)
 }
 
+// A pair of registers with `v` in the one that the selector names.
+fn register_write(a: [u32; 2], selector: u8, v: u32) -> [u32; 2]
+    ensures { λ r. ⌜ r ≡ registerWrite selector v a ⌝ }
+{
+    let mut b = a;
+    if selector == 0 {
+        b[0] = v;
+        return b;
+    }
+    b[1] = v;
+    b
+}
+
+// Call 2.
 fn preload_write(c: Channel, selector: u8, v: u32) -> ChannelReply
     ensures { λ r. ⌜ r ≡ channelReply (preloadWrite selector v c) ⌝ }
 {
+    let before = c.preloads;
+    let after = register_write(before, selector, v);
     let mut n = c;
-    if selector == 0 {
-        n.preloads[0] = v;
-        return accept(n);
-    }
-    n.preloads[1] = v;
+    n.preloads = after;
     accept(n)
 }
 
+// Call 3.
 fn compare_write(c: Channel, selector: u8, v: u32) -> ChannelReply
     ensures { λ r. ⌜ r ≡ channelReply (compareWrite selector v c) ⌝ }
 {
+    let before = c.compares;
+    let after = register_write(before, selector, v);
     let mut n = c;
-    if selector == 0 {
-        n.compares[0] = v;
-        return accept(n);
-    }
-    n.compares[1] = v;
+    n.compares = after;
     accept(n)
 }
 
+// Call 4.
 fn route_write(c: Channel, v: u32) -> ChannelReply
     ensures { λ r. ⌜ r ≡ channelReply (routeWrite v c) ⌝ }
 {
@@ -81,6 +97,7 @@ fn route_write(c: Channel, v: u32) -> ChannelReply
     accept(n)
 }
 
+// Call 5.
 fn mask_write(c: Channel, v: u32) -> ChannelReply
     ensures { λ r. ⌜ r ≡ channelReply (maskWrite v c) ⌝ }
 {
@@ -89,12 +106,14 @@ fn mask_write(c: Channel, v: u32) -> ChannelReply
     accept(n)
 }
 
+// Call 6.
 fn start(c: Channel) -> ChannelReply
     ensures { λ r. ⌜ r ≡ channelReply (start c) ⌝ }
 {
     accept(c.start())
 }
 
+// Call 7.
 fn halt(c: Channel) -> ChannelReply
     ensures { λ r. ⌜ r ≡ channelReply (halt c) ⌝ }
 {
@@ -103,24 +122,28 @@ fn halt(c: Channel) -> ChannelReply
     accept(n)
 }
 
+// Call 8.
 fn snapshot(c: Channel, timestamp: u32) -> ChannelReply
     ensures { λ r. ⌜ r ≡ channelReply (snapshot timestamp c) ⌝ }
 {
     accept(c.capture(c.count, timestamp, 128))
 }
 
+// Call 9.
 fn soft_preload(c: Channel) -> ChannelReply
     ensures { λ r. ⌜ r ≡ channelReply (softPreload c) ⌝ }
 {
     accept(c.preload())
 }
 
+// Call 10.
 fn count_read(c: Channel) -> ChannelReply
     ensures { λ r. ⌜ r ≡ channelReply (countRead c) ⌝ }
 {
     tell(c, c.count)
 }
 
+// Call 11.
 fn snapshot_read(c: Channel) -> ChannelReply
     ensures { λ r. ⌜ r ≡ channelReply (snapshotRead c) ⌝ }
 {
@@ -148,6 +171,7 @@ fn snapshot_read(c: Channel) -> ChannelReply
     }
 }
 
+// Call 12.
 fn status(c: Channel) -> ChannelReply
     ensures { λ r. ⌜ r ≡ channelReply (channelStatus c) ⌝ }
 {

@@ -46,6 +46,7 @@ fn limit(kind: u8) -> u64
     if at < 30 { LIMITS[at] } else { 0 }
 }
 
+// `x` where `b`, else `y`.
 fn pick(b: bool, x: u64, y: u64) -> u64
     ensures { λ r. ⌜ r ≡ cond b x y ⌝ }
 {

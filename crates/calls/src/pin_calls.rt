@@ -8,6 +8,7 @@ use crate::Event;
 use crate::PinReply;
 use ports::Pin;
 
+// The call is accepted, and the pin is now this one.
 fn accept(p: Pin) -> PinReply
     ensures { λ r. ⌜ r ≡ pinReply (accept p) ⌝ }
 {
@@ -17,6 +18,7 @@ fn accept(p: Pin) -> PinReply
     }
 }
 
+// Call 13.
 fn source_write(p: Pin, v: u32) -> PinReply
     ensures { λ r. ⌜ r ≡ pinReply (accept (withSource v p)) ⌝ }
 {
@@ -25,6 +27,7 @@ fn source_write(p: Pin, v: u32) -> PinReply
     accept(n)
 }
 
+// Call 14.
 fn data_write(p: Pin, v: bool) -> PinReply
     ensures { λ r. ⌜ r ≡ pinReply (accept (withOwn v p)) ⌝ }
 {
@@ -33,6 +36,7 @@ fn data_write(p: Pin, v: bool) -> PinReply
     accept(n)
 }
 
+// Call 15.
 fn safe_data_write(p: Pin, writes: bool, v: bool) -> PinReply
     ensures { λ r. ⌜ r ≡ pinReply (accept (cond writes (withSafeData v p) p)) ⌝ }
 {
@@ -44,6 +48,7 @@ fn safe_data_write(p: Pin, writes: bool, v: bool) -> PinReply
     accept(p)
 }
 
+// Call 16.
 fn safe_enable_write(p: Pin, writes: bool, v: bool) -> PinReply
     ensures { λ r. ⌜ r ≡ pinReply (accept (cond writes (withSafeEnable v p) p)) ⌝ }
 {
@@ -55,6 +60,7 @@ fn safe_enable_write(p: Pin, writes: bool, v: bool) -> PinReply
     accept(p)
 }
 
+// Call 17.
 fn level_read(p: Pin) -> PinReply
     ensures { λ r. ⌜ r ≡ pinReply (tell (flag (p .level)) p) ⌝ }
 {

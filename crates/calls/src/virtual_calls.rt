@@ -8,6 +8,7 @@ use crate::Event;
 use crate::VirtualReply;
 use ports::Virtual;
 
+// The call is accepted, and the output is now this one.
 fn accept(o: Virtual) -> VirtualReply
     ensures { λ r. ⌜ r ≡ virtualReply (accept o) ⌝ }
 {
@@ -17,6 +18,7 @@ fn accept(o: Virtual) -> VirtualReply
     }
 }
 
+// Call 18.
 fn data_write(o: Virtual, v: bool) -> VirtualReply
     ensures { λ r. ⌜ r ≡ virtualReply (accept (withOwn v o)) ⌝ }
 {
@@ -25,6 +27,7 @@ fn data_write(o: Virtual, v: bool) -> VirtualReply
     accept(n)
 }
 
+// Call 19.
 fn safe_data_write(o: Virtual, writes: bool, v: bool) -> VirtualReply
     ensures { λ r. ⌜ r ≡ virtualReply (accept (cond writes (withSafeData v o) o)) ⌝ }
 {
@@ -36,6 +39,7 @@ fn safe_data_write(o: Virtual, writes: bool, v: bool) -> VirtualReply
     accept(o)
 }
 
+// Call 20.
 fn safe_enable_write(o: Virtual, writes: bool, v: bool) -> VirtualReply
     ensures { λ r. ⌜ r ≡ virtualReply (accept (cond writes (withSafeEnable v o) o)) ⌝ }
 {
@@ -47,6 +51,7 @@ fn safe_enable_write(o: Virtual, writes: bool, v: bool) -> VirtualReply
     accept(o)
 }
 
+// Call 21.
 fn data_read(o: Virtual) -> VirtualReply
     ensures { λ r. ⌜ r ≡ virtualReply (tell (flag (o .own)) o) ⌝ }
 {

@@ -2,8 +2,9 @@
 -- Assumes nothing.
 use mathlib.Core.Bool.{Bool, cond}
 use Prim.Native.Nat.{ℕ, _+_, _/_, _%_, _^_}
-use lib.Dec.{eqb, ltb}
+use lib.Dec.{eqb}
 use Rattle.words.specs.Bits.{word}
+use Rattle.words.specs.Range.{below}
 use Rattle.control.specs.declared.Clock.{Clock}
 
 -- the prescaler of the next step
@@ -28,4 +29,4 @@ ticks p = word 8 (tick p)
 
 -- a clock handed in
 unfoldable pub repairedClock : Clock → Clock
-repairedClock k = record { prescaler = cond (ltb (k .prescaler) 500_000_000) (k .prescaler) 0; timestamp = k .timestamp }
+repairedClock k = record { prescaler = below 500_000_000 0 (k .prescaler); timestamp = k .timestamp }

@@ -1,9 +1,10 @@
 -- Document 01, "The step", part 4: safemode and what sets it.
 -- Assumes nothing.
-use mathlib.Core.Bool.{Bool, cond, _&&_, _||_, Bool·beq}
+use mathlib.Core.Bool.{Bool, _&&_, _||_, Bool·beq}
 use Prim.Native.Nat.{ℕ, _%_}
-use lib.Dec.{eqb, ltb}
+use lib.Dec.{eqb}
 use Rattle.words.specs.Bits.{bitAt}
+use Rattle.words.specs.Range.{below}
 use Rattle.control.specs.declared.Safety.{Safety}
 
 -- control bits: 0 pin 47 triggers, 1 its active level, 2 the watchdog triggers
@@ -34,4 +35,4 @@ guarded expired pin47 s =
 
 -- safety handed in
 unfoldable pub repairedSafety : Safety → Safety
-repairedSafety s = withControl (cond (ltb (s .control) 8) (s .control) 0) s
+repairedSafety s = withControl (below 8 0 (s .control)) s

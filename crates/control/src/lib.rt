@@ -62,9 +62,7 @@ impl Clock {
     pub fn repair(mut self) -> Clock
         ensures { λ r. ⌜ r ≡ repairedClock self ⌝ }
     {
-        if PRESCALE <= self.prescaler {
-            self.prescaler = 0;
-        }
+        self.prescaler = words::below(PRESCALE, 0, self.prescaler);
         self
     }
 }
@@ -164,9 +162,7 @@ impl Safety {
     pub fn repair(mut self) -> Safety
         ensures { λ r. ⌜ r ≡ repairedSafety self ⌝ }
     {
-        if 8 <= self.control {
-            self.control = 0;
-        }
+        self.control = words::below(8, 0, self.control);
         self
     }
 }

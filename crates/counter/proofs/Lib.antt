@@ -1,3 +1,4 @@
 pub mod Signed
 pub mod Table
 pub mod Small
+pub mod Wrap

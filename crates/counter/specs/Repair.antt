@@ -3,17 +3,13 @@
 use mathlib.Core.Bool.{false, cond, _||_}
 use mathlib.Core.List.{List, []}
 use Prim.Native.Nat.{ℕ}
-use lib.Dec.{ltb}
 use lib.ListN.{getD, replicate}
 use lib.Signed.{ltZ}
 use lib.IntN.{ℤ, pos, negsuc}
+use Rattle.words.specs.Range.{below}
 use Rattle.words.specs.Table.{tab}
 use Rattle.counter.specs.Mode.{goodMode}
 use Rattle.counter.specs.declared.Channel.{Channel}
-
--- n where it is below the limit, else the value at reset
-abbrev pub below : ℕ → ℕ → ℕ → ℕ
-below limit reset n = cond (ltb n limit) n reset
 
 -- a carry is −1, 0 or +1
 abbrev pub inCarry : ℤ → ℤ

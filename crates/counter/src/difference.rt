@@ -8,12 +8,14 @@ ghost use Rattle.counter.specs.Quadrature.{quadrature};
 ghost use Rattle.counter.specs.Difference.{isUp, isDown, sign, unit, clocked, reversed, moved, carryOf};
 ghost use Rattle.counter.specs.Repair.{inCarry};
 
+// `d` counts up.
 pub fn is_up(d: i32) -> bool
     ensures { λ r. ⌜ r ≡ isUp d ⌝ }
 {
     0 < d
 }
 
+// `d` counts down.
 pub fn is_down(d: i32) -> bool
     ensures { λ r. ⌜ r ≡ isDown d ⌝ }
 {
@@ -27,6 +29,7 @@ fn sign(d: i32) -> i32
     if 0 < d { 1 } else { if d < 0 { -1 } else { 0 } }
 }
 
+// 1 for true, 0 for false.
 fn unit(b: bool) -> i32
     ensures { λ r. ⌜ r ≡ unit b ⌝ }
 {

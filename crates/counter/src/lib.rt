@@ -5,12 +5,13 @@ ghost use mathlib.Core.Path.{_≡_};
 ghost use mathlib.Core.Bool.{true};
 ghost use Prim.Native.Nat.{_-_};
 ghost use lib.Dec.{eqb};
+ghost use Rattle.words.specs.Range.{below};
 ghost use Rattle.counter.specs.Mode.{TE};
 ghost use Rattle.counter.specs.Setters.{withRun};
 ghost use Rattle.counter.specs.Queue.{captured, popped, shifted};
 ghost use Rattle.counter.specs.Preload.{preloaded, started, selected};
 ghost use Rattle.counter.specs.Advance.{advance, inputs, settled, nextOf};
-ghost use Rattle.counter.specs.Repair.{below, inReasons, repaired, resetChannel};
+ghost use Rattle.counter.specs.Repair.{inReasons, repaired, resetChannel};
 
 mod difference;
 pub mod mode;
@@ -196,25 +197,19 @@ impl Channel {
         ensures { λ r. ⌜ r ≡ repaired self ⌝ }
     {
         self.mode = stages::pick(mode::is_good(self.mode), self.mode, 0);
-        self.route = below(55, 54, self.route);
-        self.mask = below(512, 0, self.mask);
-        self.kept = below(16, 0, self.kept);
+        self.route = words::below(55, 54, self.route);
+        self.mask = words::below(512, 0, self.mask);
+        self.kept = words::below(16, 0, self.kept);
         self.carry = difference::in_carry(self.carry);
         let reasons = self.reasons;
         let r = in_reasons(reasons);
         self.reasons = r;
-        self.held = below(17, 0, self.held);
+        self.held = words::below(17, 0, self.held);
         self
     }
 }
 
-// `n` where it is below the limit, else the value at reset.
-pub fn below(limit: u32, reset: u32, n: u32) -> u32
-    ensures { λ r. ⌜ r ≡ below limit reset n ⌝ }
-{
-    if n < limit { n } else { reset }
-}
-
+// One less, and 0 of 0.
 fn less_one(n: u32) -> u32
     ensures { λ r. ⌜ r ≡ n - 1 ⌝ }
 {
@@ -245,10 +240,11 @@ fn shift(a: [u32; 16]) -> [u32; 16]
     ]
 }
 
+// A reason in its range.
 fn in_reason(r: u32) -> u32
     ensures { λ x. ⌜ x ≡ below 512 0 r ⌝ }
 {
-    below(512, 0, r)
+    words::below(512, 0, r)
 }
 
 // Every place of the reasons' array in its range.

@@ -33,6 +33,7 @@ fn difference(mode: u32, armed: bool, kept: u32, now: u32, carried: i32, rises: 
     crate::difference::gate(on, turned)
 }
 
+// Reason bits 0 to 2.
 fn match_reasons(m0: bool, m1: bool, zero: bool) -> u32
     ensures { λ r. ⌜ r ≡ matchReasons m0 m1 zero ⌝ }
     ensures { λ r. ⌜ r < 8 ⌝ }
@@ -40,6 +41,7 @@ fn match_reasons(m0: bool, m1: bool, zero: bool) -> u32
     words::flag(m0) + 2 * words::flag(m1) + 4 * words::flag(zero)
 }
 
+// Reason bits 3 to 6.
 fn edge_reasons(kept: u32, now: u32) -> u32
     ensures { λ r. ⌜ r ≡ edgeReasons kept now ⌝ }
     ensures { λ r. ⌜ r < 128 ⌝ }

@@ -1,5 +1,6 @@
-// Boards handed in with every field outside its range: the answer, and what is stored of the
-// board, by events that are accepted, refused, and answered 6.
+// Boards handed in. First with every field outside its range: the answer, and what is stored of the
+// board, by events that are accepted, refused, and answered 6. Then four boards that no script
+// reaches in a test's time, or whose record tells more than a call does.
 use board::Board;
 use board::Outcome;
 use calls::Event;
@@ -16,6 +17,7 @@ const ALL: u32 = 4294967295;
 
 const EVERY: u64 = 18446744073709551615;
 
+// A channel with every field outside its range.
 fn broken_channel(lost: u32) -> Channel {
     Channel {
         mode: ALL,
@@ -38,6 +40,7 @@ fn broken_channel(lost: u32) -> Channel {
     }
 }
 
+// Clock, watchdog and safety likewise.
 fn broken_core() -> Core {
     Core {
         clock: Clock {
@@ -83,19 +86,68 @@ fn broken() -> Board {
     }
 }
 
+// A reset board with another channel 0 and another part of its own.
+fn board_with(c: Channel, core: Core) -> Board {
+    let mut b = board::reset();
+    b.channels[0] = c;
+    b.core = core;
+    b
+}
+
+// The timestamp is at its greatest and rises in the next step; channel 0 runs, armed, with K 2.
+fn before_the_wrap() -> Board {
+    let mut c = counter::reset();
+    c.mode = 32;
+    c.running = true;
+    c.armed = true;
+    let mut k = control::reset();
+    let clock = Clock {
+        prescaler: 49,
+        timestamp: ALL,
+    };
+    k.clock = clock;
+    board_with(c, k)
+}
+
+// Preload 1 is selected though BP is 0.
+fn second_without_bp() -> Board {
+    let mut c = counter::reset();
+    c.preloads = [10, 20];
+    c.second = true;
+    board_with(c, control::reset())
+}
+
+// The watchdog is enabled with a rest of 0 and no mark.
+fn rest_without_mark() -> Board {
+    let c = counter::reset();
+    let mut k = control::reset();
+    let watchdog = Watchdog {
+        interval: 5,
+        rest: 0,
+        enabled: true,
+        expired: false,
+    };
+    k.watchdog = watchdog;
+    board_with(c, k)
+}
+
+// Bytes to standard output.
 fn text(t: &[u8]) {
     io::write_all(STDOUT_FILENO, t);
 }
 
+// A name and a number.
 fn number(name: &[u8], n: u64) {
     text(name);
     io::print_decimal(STDOUT_FILENO, n);
 }
 
+// The same of a u32.
 fn small(name: &[u8], n: u32) {
     number(name, n as u64);
 }
 
+// A name and the sign of a number.
 fn signed(name: &[u8], d: i32) {
     text(name);
     if d < 0 {
@@ -105,6 +157,7 @@ fn signed(name: &[u8], d: i32) {
     }
 }
 
+// The fields of a channel that have a range, and its count.
 fn show_channel(c: Channel) {
     small(b"  mode ", c.mode);
     small(b" route ", c.route);
@@ -118,6 +171,7 @@ fn show_channel(c: Channel) {
     text(b"\n");
 }
 
+// The pins' words.
 fn show_pins(x: Pins) {
     number(b"  level ", x.level);
     number(b" driven ", x.driven);
@@ -128,6 +182,7 @@ fn show_pins(x: Pins) {
     text(b"\n");
 }
 
+// The board's own part.
 fn show_core(k: Core) {
     small(b"  prescaler ", k.clock.prescaler);
     small(b" timestamp ", k.clock.timestamp);
@@ -137,6 +192,7 @@ fn show_core(k: Core) {
     text(b"\n");
 }
 
+// The answer and the next board, its channel 0 for all six.
 fn show(name: &[u8], o: Outcome) {
     text(name);
     small(b": ", o.answer.result);
@@ -156,6 +212,7 @@ fn show(name: &[u8], o: Outcome) {
     show_core(core);
 }
 
+// A call of a kind on a member with an argument.
 fn event(kind: u8, member: u8, v: u32) -> Event {
     Event {
         kind: kind,
@@ -190,4 +247,25 @@ fn main() {
     );
     show(b"status", board::apply(broken(), event(29, 0, 0)));
     show(b"step", board::apply(broken(), event(0, 0, 0)));
+    show(
+        b"C24, step",
+        board::apply(before_the_wrap(), event(0, 0, 0)),
+    );
+    show(
+        b"C34, soft preload",
+        board::apply(second_without_bp(), event(9, 0, 0)),
+    );
+    let loaded = board::apply(second_without_bp(), event(9, 0, 0));
+    let after = loaded.board;
+    show(b"C34, status", board::apply(after, event(12, 0, 0)));
+    show(
+        b"W7, interval",
+        board::apply(board::reset(), event(25, 0, 7)),
+    );
+    let stepped = board::apply(rest_without_mark(), event(0, 0, 0));
+    let still = stepped.board;
+    show(
+        b"W9, status after a step",
+        board::apply(still, event(29, 0, 0)),
+    );
 }

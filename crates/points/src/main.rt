@@ -82,14 +82,17 @@ fn number_at(text: &[u8], at: usize) -> Number
     }
 }
 
+// A byte as a u64.
 fn wide(b: u8) -> u64 {
     b as u64
 }
 
+// The lowest byte.
 fn byte(n: u64) -> u8 {
     (n % 256) as u8
 }
 
+// The lowest 32 bits.
 fn word(n: u64) -> u32 {
     (n % 4294967296) as u32
 }
@@ -130,6 +133,7 @@ fn row_at(text: &[u8], at: usize) -> Row
     }
 }
 
+// All four numbers agree.
 fn same(a: Answer, b: Answer) -> bool {
     (a.result == b.result)
         & (a.value == b.value)
@@ -137,6 +141,7 @@ fn same(a: Answer, b: Answer) -> bool {
         & (a.reason == b.reason)
 }
 
+// A number and a space.
 fn put(n: u64) {
     io::print_decimal(STDOUT_FILENO, n);
     io::write_all(STDOUT_FILENO, b" ");
@@ -215,6 +220,7 @@ fn run_line(t: Tally, text: &[u8], at: usize, next: usize) -> Tally
     run_row(t, row)
 }
 
+// Every line of the table.
 fn run(text: &[u8]) {
     let mut t = Tally {
         board: board::reset(),

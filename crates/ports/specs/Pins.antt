@@ -2,8 +2,8 @@
 -- Assumes nothing.
 use mathlib.Core.Bool.{Bool, true, cond, _&&_, _||_}
 use Prim.Native.Nat.{ℕ, _+_, _-_, _*_}
-use lib.Dec.{eqb, ltb}
-use Rattle.words.specs.Bits.{bit, flag, word}
+use lib.Dec.{ltb}
+use Rattle.words.specs.Bits.{bit, flag, word, putBit}
 use Rattle.ports.specs.declared.Pin.{Pin}
 use Rattle.ports.specs.declared.Pins.{Pins}
 
@@ -23,22 +23,18 @@ pinAt x p =
       driven = bit (x .driven) p;
     }
 
--- a word with bit p at t
-abbrev pub putBit : ℕ → Bool → ℕ → ℕ
-putBit p t w = word 48 (λ i. cond (eqb i p) t (bit w i))
-
 -- the pins with the record q in the place of pin p's
 unfoldable pub putPin : ℕ → Pin → Pins → Pins
 putPin p q x =
     record {
-      level = putBit p (q .level) (x .level);
-      driven = putBit p (q .driven) (x .driven);
-      own = putBit p (q .own) (x .own);
-      safedata = putBit p (q .safedata) (x .safedata);
-      safeenable = putBit p (q .safeenable) (x .safeenable);
-      source0 = putBit p (bit (q .source) 0) (x .source0);
-      source1 = putBit p (bit (q .source) 1) (x .source1);
-      source2 = putBit p (bit (q .source) 2) (x .source2);
+      level = putBit 48 p (q .level) (x .level);
+      driven = putBit 48 p (q .driven) (x .driven);
+      own = putBit 48 p (q .own) (x .own);
+      safedata = putBit 48 p (q .safedata) (x .safedata);
+      safeenable = putBit 48 p (q .safeenable) (x .safeenable);
+      source0 = putBit 48 p (bit (q .source) 0) (x .source0);
+      source1 = putBit 48 p (bit (q .source) 1) (x .source1);
+      source2 = putBit 48 p (bit (q .source) 2) (x .source2);
     }
 
 abbrev pub withLevel : ℕ → Pins → Pins

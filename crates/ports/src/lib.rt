@@ -4,9 +4,9 @@ ghost use mathlib.Core.Path.{_≡_};
 ghost use Prim.Native.Nat.{_<_};
 ghost use mathlib.Core.Bool.{cond, _&&_};
 ghost use lib.Dec.{ltb};
-ghost use Rattle.words.specs.Bits.{bit, word};
+ghost use Rattle.words.specs.Bits.{bit, word, putBit};
 ghost use Rattle.ports.specs.Pins.{number, pinAt, putPin, pinLevel, sensedWith, sourced, driven, repairedPins, resetPins};
-ghost use Rattle.ports.specs.Virtuals.{virtualAt, putVirtual, putVirtualBit, virtualLevels, repairedVirtuals, resetVirtuals, routed};
+ghost use Rattle.ports.specs.Virtuals.{virtualAt, putVirtual, virtualLevels, repairedVirtuals, resetVirtuals, routed};
 
 // The number of pins, and of virtual outputs.
 pub const PINS: u64 = 48;
@@ -195,7 +195,7 @@ pub fn reset_pins() -> Pins
 // A word of the outputs with bit o at t.
 fn put_virtual_bit(w: u64, o: u64, t: bool) -> u64
     requires { ⌜ o < 6 ⌝ }
-    ensures { λ r. ⌜ r ≡ putVirtualBit o t w ⌝ }
+    ensures { λ r. ⌜ r ≡ putBit 6 o t w ⌝ }
 {
     words::put(w, o, t) % 64
 }

@@ -8,7 +8,7 @@ use Rattle.board.specs.Respond.{respond}
 use Rattle.board.specs.Handed.{kept, applied}
 use Rattle.board.specs.declared.Board.{Board}
 use Rattle.reach.specs.Range.{InRange}
-use Rattle.reach.proofs.Cases.{tested}
+use Rattle.words.proofs.Cases.{tested}
 use Rattle.reach.proofs.RangedBoard.{SoundEvent, respond-sound}
 use Rattle.reach.proofs.Repaired.{board-same}
 

@@ -11,10 +11,10 @@ use Rattle.counter.specs.Preload.{preloaded, started}
 use Rattle.counter.specs.declared.Channel.{Channel}
 use Rattle.calls.specs.Reply.{Reply, refuse, accept}
 use Rattle.calls.specs.Fields.{limits, limit, fits}
-use Rattle.calls.specs.ChannelCalls.{modeWrite, preloadWrite, compareWrite, routeWrite, maskWrite, snapshotRead, channelCall}
+use Rattle.calls.specs.ChannelCalls.{modeWrite, routeWrite, maskWrite, snapshotRead, channelCall}
 use Rattle.calls.specs.declared.Event.{Event}
 use Rattle.reach.specs.Range.{ChannelInRange}
-use Rattle.reach.proofs.Cases.{tested, either}
+use Rattle.words.proofs.Cases.{tested, either}
 use Rattle.reach.proofs.Fitting.{below-limit, good-mode}
 use Rattle.reach.proofs.Sound.{Sound, refusal, done}
 use Rattle.reach.proofs.RangedQueue.{free, captured-ranged, popped-ranged}
@@ -58,7 +58,7 @@ module _ (c : Channel) (r : ChannelInRange c) where
       (either (SoundCall c) (eqb (c .held) 0) (refusal 5 c refl r refl) (done (popped-ranged c r)))
 
   pub channel-sound : (t : ℕ) (e : Event) → fits e ≡ true → SoundCall c (channelCall t e c)
-  unfolding channelCall preloadWrite compareWrite limit limits
+  unfolding channelCall limit limits
   channel-sound t e f =
       let S = SoundCall c in
       let k = e .kind in

@@ -15,7 +15,7 @@ use Rattle.calls.specs.BoardCalls.{intervalWrite, boardCall}
 use Rattle.calls.specs.declared.Event.{Event}
 use Rattle.board.specs.Step.{coreNext}
 use Rattle.reach.specs.Range.{CoreInRange}
-use Rattle.reach.proofs.Cases.{tested, either}
+use Rattle.words.proofs.Cases.{tested, either}
 use Rattle.reach.proofs.Fitting.{below-limit, not-zero}
 use Rattle.reach.proofs.Sound.{Sound, Never, refusal, done}
 

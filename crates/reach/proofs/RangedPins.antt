@@ -14,7 +14,7 @@ use Rattle.calls.specs.Fields.{limits, limit, fits}
 use Rattle.calls.specs.PinCalls.{pinCall}
 use Rattle.calls.specs.declared.Event.{Event}
 use Rattle.reach.specs.Range.{PinsInRange}
-use Rattle.reach.proofs.Cases.{tested, either}
+use Rattle.words.proofs.Cases.{tested, either}
 use Rattle.reach.proofs.Fitting.{below-limit}
 use Rattle.reach.proofs.Sound.{Sound, Never, done}
 

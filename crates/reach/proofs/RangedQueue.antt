@@ -12,7 +12,7 @@ use Rattle.counter.specs.Setters.{withQueue}
 use Rattle.counter.specs.Queue.{captured, popped}
 use Rattle.counter.specs.declared.Channel.{Channel}
 use Rattle.reach.specs.Range.{ChannelInRange}
-use Rattle.reach.proofs.Cases.{tested}
+use Rattle.words.proofs.Cases.{tested}
 use Rattle.reach.proofs.Tables.{length-tab, tab-keeps, getD-end, set-keeps}
 
 -- the fields with no range may have any value

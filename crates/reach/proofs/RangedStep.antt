@@ -14,7 +14,7 @@ use Rattle.counter.specs.Advance.{Inputs, Registers, masked, caughtOf, finished
 use Rattle.counter.specs.declared.Channel.{Channel}
 use Rattle.counter.specs.declared.Next.{Next}
 use Rattle.reach.specs.Range.{ChannelInRange}
-use Rattle.reach.proofs.Cases.{either}
+use Rattle.words.proofs.Cases.{either}
 use Rattle.reach.proofs.RangedQueue.{captured-ranged}
 
 flag-lt : (t : Bool) → flag t < 2

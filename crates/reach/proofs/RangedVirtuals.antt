@@ -10,7 +10,7 @@ use Rattle.ports.specs.declared.Virtuals.{Virtuals}
 use Rattle.calls.specs.VirtualCalls.{virtualCall}
 use Rattle.calls.specs.declared.Event.{Event}
 use Rattle.reach.specs.Range.{VirtualsInRange}
-use Rattle.reach.proofs.Cases.{either}
+use Rattle.words.proofs.Cases.{either}
 use Rattle.reach.proofs.Sound.{Sound, Never, done}
 
 -- every record of one output is in range

@@ -11,7 +11,8 @@ use lib.ListN.{length, getD}
 use lib.IntN.{ℤ, pos, negsuc, natAbs}
 use Rattle.words.specs.Bits.{bit, word}
 use Rattle.words.proofs.BitLaws.{word-of, word-ext}
-use Rattle.counter.specs.Repair.{below, inCarry, inReasons, repaired, noChannel}
+use Rattle.words.specs.Range.{below}
+use Rattle.counter.specs.Repair.{inCarry, inReasons, repaired, noChannel}
 use Rattle.counter.specs.declared.Channel.{Channel}
 use Rattle.ports.specs.Pins.{pinAt, repairedPins}
 use Rattle.ports.specs.Virtuals.{repairedVirtuals}
@@ -25,7 +26,8 @@ use Rattle.control.specs.declared.Core.{Core}
 use Rattle.board.specs.Handed.{repairedBoard}
 use Rattle.board.specs.declared.Board.{Board}
 use Rattle.reach.specs.Range.{ChannelInRange, PinsInRange, VirtualsInRange, CoreInRange, InRange}
-use Rattle.reach.proofs.Cases.{taken, and-true}
+use Rattle.words.proofs.Cases.{taken}
+use Rattle.reach.proofs.Cases.{and-true}
 use Rattle.reach.proofs.Tables.{tab-same}
 
 -- ---- channels

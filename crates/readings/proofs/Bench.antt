@@ -16,7 +16,7 @@ use Rattle.control.specs.Safety.{guarded}
 use Rattle.control.specs.Watchdog.{watched, kicked, switched}
 use Rattle.control.specs.Whole.{resetCore}
 use Rattle.calls.specs.BoardCalls.{intervalWrite, boardCall}
-use Rattle.calls.specs.ChannelCalls.{modeWrite, preloadWrite, compareWrite, routeWrite, snapshotRead, channelCall}
+use Rattle.calls.specs.ChannelCalls.{modeWrite, registerWrite, routeWrite, snapshotRead, channelCall}
 use Rattle.calls.specs.Fields.{limits, limit, fits}
 use Rattle.calls.specs.PinCalls.{pinCall}
 use Rattle.calls.specs.VirtualCalls.{virtualCall}
@@ -28,5 +28,5 @@ use Rattle.board.specs.Step.{sceneOf, coreNext, stepWith, stepped}
 use Rattle.readings.specs.Readings.{call, preload1, steps, lines, seen, read, delay, cascade, turn, error, seventeen, pulses, table}
 
 pub readings : map read table ≡ map (λ r. r .numbers) table
-unfolding bit word tab difference masked caughtOf finished live resting nextOf settled advance clocked preloaded started captured popped resetChannel pinAt putPin pinLevel sensedWith driven resetPins virtualAt putVirtual virtualLevels resetVirtuals routed advanced ticks guarded watched kicked switched resetCore intervalWrite boardCall modeWrite preloadWrite compareWrite routeWrite snapshotRead channelCall limits limit fits pinCall virtualCall resetBoard extouts indexOf samplesOf inputsOf channelNext allNext respondBy respondWith respond finish sceneOf coreNext stepWith stepped call preload1 steps lines seen read delay cascade turn error seventeen pulses table
+unfolding bit word tab difference masked caughtOf finished live resting nextOf settled advance clocked preloaded started captured popped resetChannel pinAt putPin pinLevel sensedWith driven resetPins virtualAt putVirtual virtualLevels resetVirtuals routed advanced ticks guarded watched kicked switched resetCore intervalWrite boardCall modeWrite registerWrite routeWrite snapshotRead channelCall limits limit fits pinCall virtualCall resetBoard extouts indexOf samplesOf inputsOf channelNext allNext respondBy respondWith respond finish sceneOf coreNext stepWith stepped call preload1 steps lines seen read delay cascade turn error seventeen pulses table
 readings = refl

@@ -5,7 +5,8 @@ ghost use mathlib.Core.Path.{_≡_};
 ghost use Prim.Native.Nat.{_<_, _%_, _^_};
 ghost use mathlib.Core.Bool.{not, cond, _||_, _&&_};
 ghost use lib.Dec.{eqb};
-ghost use Rattle.words.specs.Bits.{bit, flag, word};
+ghost use Rattle.words.specs.Bits.{bit, flag, word, putBit};
+ghost use Rattle.words.specs.Range.{below};
 
 // 1 for true, 0 for false.
 pub fn flag(b: bool) -> u32
@@ -13,6 +14,13 @@ pub fn flag(b: bool) -> u32
     ensures { λ r. ⌜ r < 2 ⌝ }
 {
     if b { 1 } else { 0 }
+}
+
+// `n` where it is below the limit, else the value at reset.
+pub fn below(limit: u32, reset: u32, n: u32) -> u32
+    ensures { λ r. ⌜ r ≡ below limit reset n ⌝ }
+{
+    if n < limit { n } else { reset }
 }
 
 // Bit `i` of `w`.
@@ -69,7 +77,7 @@ pub fn only(p: u64) -> u64
 // `w` with bit `p` at `v`.
 pub fn put(w: u64, p: u64, v: bool) -> u64
     requires { ⌜ p < 48 ⌝ }
-    ensures { λ r. ⌜ r ≡ word 48 (λ i. cond (eqb i p) v (bit w i)) ⌝ }
+    ensures { λ r. ⌜ r ≡ putBit 48 p v w ⌝ }
 {
     select(only(p), all(v), w)
 }

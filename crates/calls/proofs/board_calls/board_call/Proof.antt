@@ -9,8 +9,8 @@ use Rattle.calls.proofs.board_calls.board_call.Tie as tie
 control-write-requires : tie.Need-control-write-requires
 control-write-requires c κs = search needs
 
-writes-write-requires : tie.Need-writes-write-requires
-writes-write-requires c κs = search needs
+swe-write-requires : tie.Need-swe-write-requires
+swe-write-requires c κs = search needs
 
 safemode-clear-requires : tie.Need-safemode-clear-requires
 safemode-clear-requires c κs = search needs
@@ -41,7 +41,7 @@ unfolding boardCall
 returns-2 c =
     let c₁ = c .before in
     let c₂ = c₁ .before in
-    rw (c .writes-write .ensures, c₂ .match .keys2)
+    rw (c .swe-write .ensures, c₂ .match .keys2)
 
 returns-3 : tie.Need-returns-3
 unfolding boardCall
@@ -85,7 +85,7 @@ board-call-spec =
     tie.close
     (tie.spec
     control-write-requires
-    writes-write-requires
+    swe-write-requires
     safemode-clear-requires
     interval-write-requires
     enable-write-requires
