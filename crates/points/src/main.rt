@@ -11,11 +11,6 @@ use calls::Event;
 use libc::STDIN_FILENO;
 use libc::STDOUT_FILENO;
 
-struct Number {
-    value: u64,
-    next: usize,
-}
-
 struct Row {
     times: u64,
     event: Event,
@@ -27,64 +22,6 @@ struct Tally {
     board: Board,
     wrong: u64,
     named: bool,
-}
-
-// The place behind the line that starts at `at`.
-fn line_end(text: &[u8], at: usize) -> usize
-    requires { ⌜ at < length (now text) ⌝ }
-    ensures { λ r. ⌜ at < r ⌝ }
-    ensures { λ r. ⌜ r ≤ length (now (text .entry)) ⌝ }
-{
-    let mut i = at;
-    while i < text.len() {
-        if text[i] == b'\n' {
-            return i + 1;
-        }
-        i += 1;
-    }
-    i
-}
-
-// The place past a space at `at`, if there is one.
-fn past_space(text: &[u8], at: usize) -> usize
-    requires { ⌜ at ≤ length (now text) ⌝ }
-    ensures { λ r. ⌜ r ≤ length (now (text .entry)) ⌝ }
-{
-    if at < text.len() {
-        if text[at] == b' ' {
-            return at + 1;
-        }
-    }
-    at
-}
-
-// The decimal number at `at`, past one space, and the place behind it.
-fn number_at(text: &[u8], at: usize) -> Number
-    requires { ⌜ at ≤ length (now text) ⌝ }
-    ensures { λ r. ⌜ r .next ≤ length (now (text .entry)) ⌝ }
-{
-    let mut i = past_space(text, at);
-    let mut value: u64 = 0;
-    while i < text.len() {
-        let b = text[i];
-        if (b < b'0') | (b'9' < b) {
-            return Number {
-                value: value,
-                next: i,
-            };
-        }
-        value = value % 1_000_000_000_000_000_000 * 10 + wide(b) % 16;
-        i += 1;
-    }
-    Number {
-        value: value,
-        next: i,
-    }
-}
-
-// A byte as a u64.
-fn wide(b: u8) -> u64 {
-    b as u64
 }
 
 // The lowest byte.
@@ -102,17 +39,17 @@ fn row_at(text: &[u8], at: usize) -> Row
     requires { ⌜ at ≤ length (now text) ⌝ }
     ensures { λ r. ⌜ r .next ≤ length (now (text .entry)) ⌝ }
 {
-    let times = number_at(text, at);
-    let kind = number_at(text, times.next);
-    let member = number_at(text, kind.next);
-    let selector = number_at(text, member.next);
-    let spare = number_at(text, selector.next);
-    let v = number_at(text, spare.next);
-    let w = number_at(text, v.next);
-    let result = number_at(text, w.next);
-    let value = number_at(text, result.next);
-    let timestamp = number_at(text, value.next);
-    let reason = number_at(text, timestamp.next);
+    let times = tables::number_at(text, at);
+    let kind = tables::number_at(text, times.next);
+    let member = tables::number_at(text, kind.next);
+    let selector = tables::number_at(text, member.next);
+    let spare = tables::number_at(text, selector.next);
+    let v = tables::number_at(text, spare.next);
+    let w = tables::number_at(text, v.next);
+    let result = tables::number_at(text, w.next);
+    let value = tables::number_at(text, result.next);
+    let timestamp = tables::number_at(text, value.next);
+    let reason = tables::number_at(text, timestamp.next);
     Row {
         times: times.value,
         event: Event {
@@ -229,7 +166,7 @@ fn run(text: &[u8]) {
     };
     let mut at: usize = 0;
     while at < text.len() {
-        let next = line_end(text, at);
+        let next = tables::line_end(text, at);
         t = run_line(t, text, at, next);
         at = next;
     }

@@ -1,0 +1,41 @@
+-- Laws of decimal digits.
+-- Assumes nothing.
+use mathlib.Core.Path.{_≡_, refl, sym, ap, _∙_}
+use mathlib.Core.List.{List, [], _∷_, _++_}
+use Prim.Native.Nat.{ℕ, zero, suc, _+_, _-_, _*_, _/_, _%_, _^_, _≤_, _<_}
+use native.Mathlib.Omega.{arith}
+use native.Mathlib.Nat.{pow-succ'}
+use native.Mathlib.Numerals.{add-one}
+use borrow.Author.Tests.{lt-ltb, le-ltb, ltb-true, ltb-false}
+use lib.ListN.{length, set, length-append}
+use lib.Dec.{ltb}
+use Rattle.buffers.specs.Pieces.{put}
+use Rattle.buffers.proofs.Put.{set-put, put-set}
+use Rattle.buffers.proofs.Joined.{split}
+use Rattle.text.specs.Decimal.{digits, decimal}
+
+pub digits-one : (k n : ℕ) → k ≡ 0 → digits k n ≡ (48 + n % 10) ∷ []
+unfolding digits
+digits-one k n e = rw e
+
+pub digits-few : (k n : ℕ) → 0 < k → n < 10 → digits k n ≡ (48 + n) ∷ []
+unfolding digits
+digits-few zero n h b = absurd (omega arith)
+digits-few (suc k) n h b = simp (lt-ltb n 10 b)
+
+pub digits-more : (k n : ℕ) → 0 < k → 10 ≤ n → digits k n ≡ digits (k - 1) (n / 10) ++ ((48 + n % 10) ∷ [])
+unfolding digits
+digits-more zero n h b = absurd (omega arith)
+digits-more (suc k) n h b = let e : suc k - 1 ≡ k = omega arith in simp (le-ltb n 10 b, e)
+
+pub length-digits : (k n : ℕ) → length (digits k n) ≤ k + 1
+unfolding digits
+length-digits zero n = omega arith
+length-digits (suc k) n =
+    split 10 n
+    (λ b. simp (le-ltb n 10 b, length-append) (omega (arith, length-digits k (n / 10))))
+    (λ b. simp (lt-ltb n 10 b) (omega arith))
+
+pub length-decimal : (n : ℕ) → length (decimal n) ≤ 20
+unfolding decimal
+length-decimal n = length-digits 19 n
