@@ -76,3 +76,8 @@ copy-more s d at i h k =
 pub fill-more : (d : List ℕ) (at i x : ℕ) → at + i < length d → set (put d at (replicate i x)) (at + i) x ≡ put d at (replicate (i + 1) x)
 fill-more d at i x k =
     put-set d at (replicate i x) (at + i) x (simp length-replicate) k ∙ ap (put d at) (replicate-append-replicate i 1 x)
+
+-- what was put at the start is found there
+pub take-put : (d p : List ℕ) → take (length p) (put d 0 p) ≡ p
+unfolding put
+take-put d p = take-at p (drop (0 + length p) d) (length p) refl

@@ -111,7 +111,7 @@ fn log_file(file: &[u8], out: &mut [u8]) -> usize
     while from < file.len() {
         let left = file.len() - from;
         let to = if left > 512 { from + 512 } else { file.len() };
-        let t = log::turn(board, place, &file[from..to], to < file.len(), &mut out[at..]);
+        let t = log::print_place(board, place, &file[from..to], to < file.len(), &mut out[at..]);
         at += t.written;
         if t.result != 0 {
             return at;
