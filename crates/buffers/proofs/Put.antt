@@ -2,12 +2,12 @@
 -- Assumes nothing.
 use mathlib.Core.Path.{_≡_, refl, sym, ap, _∙_}
 use mathlib.Core.List.{List, [], _∷_, _++_, append-assoc, append-nil}
-use Prim.Native.Nat.{ℕ, suc, _+_, _-_, _≤_, _<_}
+use Prim.Native.Nat.{ℕ, _+_, _-_, _≤_, _<_}
 use native.Mathlib.Nat.{add-zero, zero-add}
 use native.Mathlib.Numerals.{add-one}
 use native.Mathlib.Omega.{arith}
 use lib.ListN.{length, take, drop, set, getD, replicate, length-replicate, replicate-append-replicate, length-append, length-take, length-drop, take-append-drop}
-use lib.Seq.{length-take-le, take-suc, take-at, drop-at, set-split, drop-drop, take-all, drop-length, drop-append-add}
+use lib.Seq.{length-take-le, take-suc, take-at, set-split, drop-drop, drop-length, drop-append-add}
 use borrow.Rule.Slice.PartMut.{putMid}
 use Rattle.buffers.specs.Pieces.{put}
 

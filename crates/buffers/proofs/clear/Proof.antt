@@ -1,14 +1,14 @@
-use Prim.Native.Nat.{ℕ, _+_, _-_, _*_, _≤_, _<_, _%_, _^_}
-use mathlib.Core.Path.{_≡_, refl, sym, ap, _∙_}
+-- `buffers::clear` meets its contract.
+-- Assumes nothing.
+use Prim.Native.Nat.{_-_, _≤_}
+use mathlib.Core.Path.{_≡_, refl, sym}
 use native.Mathlib.Omega.{arith}
 use borrow.Author.Needs.{needs}
-use lib.ListN.{length, take, drop, set, getD, replicate, length-set}
+use lib.ListN.{length, replicate, length-set}
 use Rattle.buffers.specs.Pieces.{put}
 use Rattle.buffers.proofs.Put.{put-none, fill-more}
 use Rattle.buffers.proofs.clear.Statement.{statement}
 use Rattle.buffers.proofs.clear.Tie as tie
-use Rattle.buffers.proofs.clear.Reads as reads
-use Rattle.buffers.proofs.clear.Lts as lts
 
 abbrev Inv-loop : tie.InvT-loop
 Inv-loop out₀ at n i₀ out i = (i ≤ n) × (out ≡ put out₀ at (replicate i 0)) × (length out ≡ length out₀)

@@ -1,15 +1,15 @@
-use Prim.Native.Nat.{ℕ, _+_, _-_, _*_, _≤_, _<_, _%_, _^_}
+-- `buffers::copy_to` meets its contract.
+-- Assumes nothing.
+use Prim.Native.Nat.{_-_, _≤_}
 use mathlib.Core.Path.{_≡_, refl, sym, ap, _∙_}
 use native.Mathlib.Omega.{arith}
 use borrow.Author.Needs.{needs}
-use lib.ListN.{length, take, drop, set, getD, replicate, length-set}
+use lib.ListN.{length, take, length-set}
 use lib.Seq.{take-length}
 use Rattle.buffers.specs.Pieces.{put}
 use Rattle.buffers.proofs.Put.{put-none, copy-more}
 use Rattle.buffers.proofs.copy_to.Statement.{statement}
 use Rattle.buffers.proofs.copy_to.Tie as tie
-use Rattle.buffers.proofs.copy_to.Reads as reads
-use Rattle.buffers.proofs.copy_to.Lts as lts
 
 abbrev Inv-loop : tie.InvT-loop
 Inv-loop src out₀ at i₀ out i = (i ≤ length src) × (out ≡ put out₀ at (take i src)) × (length out ≡ length out₀)

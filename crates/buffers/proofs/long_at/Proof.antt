@@ -1,12 +1,11 @@
-use mathlib.Core.Path.{_≡_, sym}
+-- `buffers::long_at` meets its contract.
+-- Assumes nothing.
+use mathlib.Core.Path.{sym}
 use native.Mathlib.Omega.{arith}
 use Rattle.buffers.proofs.Little.{field-split}
 use borrow.Author.Needs.{needs}
 use Rattle.buffers.proofs.long_at.Statement.{statement}
 use Rattle.buffers.proofs.long_at.Tie as tie
-use Rattle.buffers.proofs.long_at.Reads as reads
-use Rattle.buffers.proofs.long_at.Lts as lts
-use Rattle.buffers.proofs.word_at.Reads as word-at-reads
 
 word-at-requires : tie.Need-word-at-requires
 word-at-requires c κs = search needs

@@ -1,3 +1,5 @@
+-- `buffers::put_long` meets its contract.
+-- Assumes nothing.
 use mathlib.Core.Path.{_≡_, sym, ap, _∙_}
 use mathlib.Core.List.{List}
 use Prim.Native.Nat.{ℕ, _+_, _/_, _%_, _≤_}
@@ -11,9 +13,6 @@ use Rattle.buffers.proofs.Little.{length-little, little-split, little-l
 use borrow.Author.Needs.{needs}
 use Rattle.buffers.proofs.put_long.Statement.{statement}
 use Rattle.buffers.proofs.put_long.Tie as tie
-use Rattle.buffers.proofs.put_long.Reads as reads
-use Rattle.buffers.proofs.put_long.Lts as lts
-use Rattle.buffers.proofs.put_word.Reads as put-word-reads
 
 -- the low word and the high one behind it
 two : (d o o′ : List ℕ) (at v : ℕ) → at + 8 ≤ length d → o ≡ put d at (little 4 (v % 4294967296)) → o′ ≡ put o (at + 4) (little 4 (v / 4294967296))

@@ -1,14 +1,13 @@
-use Prim.Native.Nat.{ℕ, _+_, _-_, _*_, _≤_, _<_, _%_, _^_}
-use mathlib.Core.Path.{_≡_, refl, sym, ap, _∙_}
+-- `buffers::put_word` meets its contract.
+-- Assumes nothing.
+use Prim.Native.Nat.{_-_}
 use native.Mathlib.Omega.{arith}
 use borrow.Author.Needs.{needs}
-use lib.ListN.{length, take, drop, set, getD, replicate, length-set}
+use lib.ListN.{length-set}
 use Rattle.buffers.specs.Little.{little}
 use Rattle.buffers.proofs.Put.{put-four}
 use Rattle.buffers.proofs.put_word.Statement.{statement}
 use Rattle.buffers.proofs.put_word.Tie as tie
-use Rattle.buffers.proofs.put_word.Reads as reads
-use Rattle.buffers.proofs.put_word.Lts as lts
 
 cast-out : tie.Need-cast-out
 cast-out c = search needs

@@ -1,11 +1,10 @@
-use mathlib.Core.Path.{_≡_, sym, _∙_}
+-- `buffers::word_at` meets its contract.
+-- Assumes nothing.
+use mathlib.Core.Path.{sym, _∙_}
 use Rattle.buffers.proofs.Little.{field-four}
 use borrow.Author.Needs.{needs}
 use Rattle.buffers.proofs.word_at.Statement.{statement}
 use Rattle.buffers.proofs.word_at.Tie as tie
-use Rattle.buffers.proofs.word_at.Reads as reads
-use Rattle.buffers.proofs.word_at.Lts as lts
-use Rattle.buffers.proofs.word_of.Reads as word-of-reads
 
 shared-slice-read-word-of : tie.Need-shared-slice-read-word-of
 shared-slice-read-word-of c = search needs

@@ -5,8 +5,6 @@ use lib.ListN.{length}
 use borrow.Author.Needs.{needs}
 use Rattle.tables.proofs.word_end.Statement.{statement}
 use Rattle.tables.proofs.word_end.Tie as tie
-use Rattle.tables.proofs.word_end.Reads as reads
-use Rattle.tables.proofs.word_end.Lts as lts
 
 abbrev Inv-loop : tie.InvT-loop
 Inv-loop text at i₀ i = (at ≤ i) × (i ≤ length text)

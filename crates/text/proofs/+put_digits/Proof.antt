@@ -1,7 +1,9 @@
-use mathlib.Core.Path.{_≡_, refl, sym, ap, _∙_}
-use Prim.Native.Nat.{_+_, _-_, _*_, _/_, _≤_}
+-- `text::put_digits` meets its contract.
+-- Assumes nothing.
+use mathlib.Core.Path.{refl}
+use Prim.Native.Nat.{_+_, _-_, _/_}
 use native.Mathlib.Omega.{arith}
-use lib.ListN.{length, length-append}
+use lib.ListN.{length-append}
 use Rattle.buffers.proofs.Put.{set-put, put-set}
 use Rattle.text.specs.Decimal.{digits}
 use Rattle.text.proofs.Decimal.{digits-one, digits-few, digits-more, length-digits}

@@ -1,0 +1,72 @@
+-- The lines of a history's events are those that are printed for them one after the other.
+-- Assumes nothing.
+use mathlib.Core.Path.{_≡_, refl, sym, ap, _∙_}
+use mathlib.Core.List.{List, [], _++_, append-assoc, append-nil}
+use Prim.Native.Nat.{ℕ, zero, suc, _+_, _/_}
+use native.Mathlib.Nat.{add-zero}
+use native.Mathlib.Omega.{arith}
+use lib.ListN.{length}
+use Rattle.words.specs.Table.{tab}
+use Rattle.buffers.specs.Pieces.{joined}
+use Rattle.buffers.proofs.Joined.{joined-ext}
+use Rattle.calls.specs.declared.Event.{Event}
+use Rattle.board.specs.Respond.{respond}
+use Rattle.board.specs.Handed.{resetBoard}
+use Rattle.board.specs.Runs.{replies}
+use Rattle.board.specs.declared.Board.{Board}
+use Rattle.reach.proofs.Reach.{demand2}
+use Rattle.log.specs.Lines.{lineOf, eventAt, boardAfter, printedFor, printed}
+use Rattle.logged.specs.Whole.{eventsOf, linesOf, answersOf}
+
+-- the board after n events of any sequence
+unfoldable after : (ℕ → Event) → Board → ℕ → Board
+after ev b zero = b
+after ev b (suc n) = respond (after ev b n) (ev n) .state
+
+unfoldable lineAt : (ℕ → Event) → Board → ℕ → ℕ → List ℕ
+lineAt ev b i j = lineOf (i + j) (ev j .kind) (respond (after ev b j) (ev j) .answer)
+
+-- the first event taken off
+after-first : (ev : ℕ → Event) (b : Board) (n : ℕ) → after ev b (suc n) ≡ after (λ j. ev (suc j)) (respond b (ev 0) .state) n
+unfolding after
+after-first ev b zero = refl
+after-first ev b (suc n) = ap (λ (x : Board). respond x (ev (suc n)) .state) (after-first ev b n)
+
+joined-none : (f : ℕ → List ℕ) → joined 0 f ≡ []
+unfolding joined
+joined-none f = refl
+
+joined-first : (n : ℕ) (f : ℕ → List ℕ) → joined (suc n) f ≡ f 0 ++ joined n (λ j. f (suc j))
+unfolding joined
+joined-first zero f = sym (append-nil (f 0))
+joined-first (suc n) f = ap (λ (l : List ℕ). l ++ f (suc n)) (joined-first n f) ∙ append-assoc (f 0) (joined n (λ j. f (suc j))) (f (suc n))
+
+line-first : (ev : ℕ → Event) (b : Board) (i : ℕ) → lineOf i (ev 0 .kind) (respond b (ev 0) .answer) ≡ lineAt ev b i 0
+unfolding lineAt after
+line-first ev b i = rw add-zero
+
+line-next : (ev : ℕ → Event) (b : Board) (i j : ℕ) → lineAt (λ k. ev (suc k)) (respond b (ev 0) .state) (i + 1) j ≡ lineAt ev b i (suc j)
+unfolding lineAt
+line-next ev b i j =
+    let place : i + 1 + j ≡ i + suc j = omega arith in
+    rw (place, ← after-first ev b j)
+
+lines-joined : (n i : ℕ) (ev : ℕ → Event) (b : Board) → linesOf i (tab n ev) (replies respond b (tab n ev)) ≡ joined n (lineAt ev b i)
+unfolding tab linesOf replies
+lines-joined zero i ev b = sym (joined-none (lineAt ev b i))
+lines-joined (suc n) i ev b =
+    let next : Board = respond b (ev 0) .state in
+    let rest : linesOf (i + 1) (tab n (λ j. ev (suc j))) (replies respond next (tab n (λ j. ev (suc j)))) ≡ joined n (λ j. lineAt ev b i (suc j)) =
+    lines-joined n (i + 1) (λ j. ev (suc j)) next ∙ joined-ext n (lineAt (λ j. ev (suc j)) next (i + 1)) (λ j. lineAt ev b i (suc j)) (λ j h. line-next ev b i j) in
+    rw (rest, line-first ev b i) (sym (joined-first n (lineAt ev b i)))
+
+board-after : (b : Board) (h : List ℕ) (n : ℕ) → boardAfter b h n ≡ after (eventAt h) b n
+unfolding boardAfter after
+board-after b h zero = refl
+board-after b h (suc n) = ap (λ (x : Board). respond x (eventAt h n) .state) (board-after b h n)
+
+pub answers-printed : (h : List ℕ) → answersOf h ≡ printed resetBoard h 0 (length h / 16)
+unfolding answersOf printed printedFor lineAt
+answers-printed h =
+    ap (linesOf 0 (eventsOf h)) (demand2 .1 (eventsOf h) .same) ∙ lines-joined (length h / 16) 0 (eventAt h) resetBoard
+    ∙ joined-ext (length h / 16) (lineAt (eventAt h) resetBoard 0) (printedFor resetBoard h 0) (λ j b. rw (← board-after resetBoard h j))
