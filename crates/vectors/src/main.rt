@@ -6,8 +6,9 @@
 // again and must give the file, and what was written is read again. Each line is repeated with
 // `ok`, or with what differs: of a log the line's number, what was expected and what came.
 ghost use mathlib.Core.Path.{_≡_};
-ghost use Prim.Native.Nat.{_+_, _≤_};
+ghost use Prim.Native.Nat.{_<_, _≤_};
 ghost use lib.ListN.{length};
+use board::Board;
 use libc::STDIN_FILENO;
 use libc::STDOUT_FILENO;
 
@@ -19,6 +20,13 @@ struct Row {
     room: usize,
     result: u64,
     bytes: u64,
+}
+
+// The board after the places so far, the length of the log, and whether a place was bad.
+struct State {
+    board: Board,
+    at: usize,
+    stopped: bool,
 }
 
 // The size of all buffers.
@@ -71,7 +79,11 @@ fn common(a: &[u8], b: &[u8]) -> usize
 }
 
 fn same(a: &[u8], b: &[u8]) -> bool {
-    if a.len() == b.len() { common(a, b) == a.len() } else { false }
+    if a.len() == b.len() {
+        common(a, b) == a.len()
+    } else {
+        false
+    }
 }
 
 // Reads the file of the given name and ending into buf, and answers its length; 0 where there is no
@@ -82,7 +94,10 @@ fn load(name: &[u8], ending: &[u8], buf: &mut [u8]) -> usize
 {
     let mut path = [0u8; 256];
     let n = name.len();
-    if (n > 200) | (ending.len() > 50) {
+    if n > 200 {
+        return 0;
+    }
+    if ending.len() > 50 {
         return 0;
     }
     buffers::copy_to(name, &mut path, 0);
@@ -98,29 +113,56 @@ fn load(name: &[u8], ending: &[u8], buf: &mut [u8]) -> usize
     got.count
 }
 
+// Where the block that starts at `from` ends in a file of n bytes.
+fn block_end(from: usize, n: usize) -> usize
+    requires { ⌜ from < n ⌝ }
+    ensures { λ r. ⌜ from < r ⌝ }
+    ensures { λ r. ⌜ r ≤ n ⌝ }
+{
+    if n - from > 512 { from + 512 } else { n }
+}
+
+// Adds the lines of one place to the log.
+fn log_place(s: State, place: u32, bytes: &[u8], more: bool, out: &mut [u8]) -> State
+    requires { ⌜ s .at ≤ 65536 ⌝ }
+    requires { ⌜ length (now out) ≡ 65536 ⌝ }
+    ensures { λ r. ⌜ r .at ≤ 65536 ⌝ }
+{
+    let at = s.at;
+    let board = s.board;
+    let p = log::print_place(board, place, bytes, more, &mut out[at..]);
+    let to = at + p.written;
+    let next = p.board;
+    State {
+        board: next,
+        at: to,
+        stopped: p.result != 0,
+    }
+}
+
 // The log of a whole file, at the start of out, and its length.
 fn log_file(file: &[u8], out: &mut [u8]) -> usize
     requires { ⌜ length (now file) ≤ 65536 ⌝ }
     requires { ⌜ length (now out) ≡ 65536 ⌝ }
     ensures { λ r. ⌜ r ≤ length (now (out .exit)) ⌝ }
 {
-    let mut board = board::reset();
-    let mut at: usize = 0;
+    let mut s = State {
+        board: board::reset(),
+        at: 0,
+        stopped: false,
+    };
     let mut from: usize = 0;
     let mut place: u32 = 0;
     while from < file.len() {
-        let left = file.len() - from;
-        let to = if left > 512 { from + 512 } else { file.len() };
-        let t = log::print_place(board, place, &file[from..to], to < file.len(), &mut out[at..]);
-        at += t.written;
-        if t.result != 0 {
-            return at;
+        if s.stopped {
+            return s.at;
         }
-        board = t.board;
+        let to = block_end(from, file.len());
+        s = log_place(s, place, &file[from..to], to < file.len(), out);
         from = to;
         place += 1;
     }
-    at
+    s.at
 }
 
 // The number of the line that place `at` is in, counted from 1.
@@ -217,7 +259,11 @@ fn writes_as(h: &[u8], file: &[u8], out: &mut [u8]) -> bool {
     if n > out.len() {
         return false;
     }
-    if t.result == 0 { same(file, &out[..n]) } else { false }
+    if t.result == 0 {
+        same(file, &out[..n])
+    } else {
+        false
+    }
 }
 
 // Whether the file, read, gives the history.
@@ -227,7 +273,11 @@ fn reads_as(file: &[u8], h: &[u8], out: &mut [u8]) -> bool {
     if n > out.len() {
         return false;
     }
-    if t.result == 0 { same(h, &out[..n]) } else { false }
+    if t.result == 0 {
+        same(h, &out[..n])
+    } else {
+        false
+    }
 }
 
 // `read NAME ROOM RESULT BYTES`.

@@ -1,0 +1,81 @@
+-- `vectors::load` meets its contract.
+-- Assumes nothing.
+use mathlib.Core.Path.{sym}
+use native.Mathlib.Omega.{arith}
+use lib.Seq.{length-take-le}
+use borrow.Author.Needs.{needs}
+use Rattle.vectors.proofs.load.Statement.{statement}
+use Rattle.vectors.proofs.load.Tie as tie
+
+returns : tie.Need-returns
+returns c = search needs
+
+returns-2 : tie.Need-returns-2
+returns-2 c = search needs
+
+slice-aggregate-copy-to : tie.Need-slice-aggregate-copy-to
+slice-aggregate-copy-to c = search needs
+
+copy-to-requires : tie.Need-copy-to-requires
+copy-to-requires c κs = search needs
+
+slice-aggregate-copy-to-2 : tie.Need-slice-aggregate-copy-to-2
+slice-aggregate-copy-to-2 c = search needs
+
+copy-to-requires-2 : tie.Need-copy-to-requires-2
+copy-to-requires-2 c κs = search needs
+
+add-end : tie.Need-add-end
+add-end c = search needs
+
+array-share-prefix-path : tie.Need-array-share-prefix-path
+array-share-prefix-path c = search needs
+
+slice-aggregate-open-read : tie.Need-slice-aggregate-open-read
+slice-aggregate-open-read c = sym (length-take-le _ _ (omega arith))
+
+open-read-requires : tie.Need-open-read-requires
+open-read-requires c κs = search needs
+
+slice-aggregate-write-all : tie.Need-slice-aggregate-write-all
+slice-aggregate-write-all c = search needs
+
+write-all-requires : tie.Need-write-all-requires
+write-all-requires c κs = search needs
+
+returns-3 : tie.Need-returns-3
+returns-3 c = search needs
+
+fill-requires : tie.Need-fill-requires
+fill-requires c κs = search needs
+
+close-requires : tie.Need-close-requires
+close-requires c κs = search needs
+
+same-length : tie.Need-same-length
+same-length c = search needs
+
+returns-4 : tie.Need-returns-4
+returns-4 c = search needs
+
+pub load-spec : {M : Type 1} → statement M
+load-spec =
+    tie.close
+    (tie.spec
+    returns
+    returns-2
+    slice-aggregate-copy-to
+    copy-to-requires
+    slice-aggregate-copy-to-2
+    copy-to-requires-2
+    add-end
+    array-share-prefix-path
+    slice-aggregate-open-read
+    open-read-requires
+    slice-aggregate-write-all
+    write-all-requires
+    returns-3
+    fill-requires
+    close-requires
+    same-length
+    returns-4)
