@@ -2,9 +2,13 @@
 // `log NAME`: the lines printed for NAME.hist are those of NAME.log.
 // `read NAME ROOM RESULT BYTES`: so the reader answers NAME.hist with so many bytes of room.
 // `write LENGTH ROOM RESULT BYTES`: so the writer answers a history of so many zero bytes.
+// `long BLOCKS TAIL RESULT PLACE`: the log of so many full blocks of accepted steps, and behind
+// them so many zero bytes, at most 512, ends at this place with this result. Result 0 has no line,
+// any other only the line of its place. The blocks are made one by one and never kept.
 // A refused output is looked at whole, an accepted one past its end; what was read is written
-// again and must give the file, and what was written is read again. Each line is repeated with
-// `ok`, or with what differs: of a log the line's number, what was expected and what came.
+// again and must give the file, and what was written is read again. Each record that was read is
+// decoded and encoded and must be the same. Each line is repeated with `ok`, or with what differs:
+// of a log the line's number, what was expected and what came.
 ghost use mathlib.Core.Path.{_≡_};
 ghost use Prim.Native.Nat.{_<_, _≤_};
 ghost use lib.ListN.{length};
@@ -15,18 +19,21 @@ use libc::STDOUT_FILENO;
 // What an output is filled with before a test.
 const MARK: u8 = 0xa5;
 
-// What a table's row asks for: room, result, bytes.
+// What a table's row asks for: room, result, bytes. In a `long` row these are the bytes behind the
+// blocks, the result and the place.
 struct Row {
     room: usize,
     result: u64,
     bytes: u64,
 }
 
-// The board after the places so far, the length of the log, and whether a place was bad.
+// The board after the sound places, how many these are, the length of the log, and the result of
+// the last place.
 struct State {
     board: Board,
+    place: u32,
     at: usize,
-    stopped: bool,
+    result: u8,
 }
 
 // The size of all buffers.
@@ -122,21 +129,44 @@ fn block_end(from: usize, n: usize) -> usize
     if n - from > 512 { from + 512 } else { n }
 }
 
-// Adds the lines of one place to the log.
-fn log_place(s: State, place: u32, bytes: &[u8], more: bool, out: &mut [u8]) -> State
+// The state before the first place.
+fn start() -> State
+    ensures { λ r. ⌜ (r .place ≡ 0) × (r .at ≡ 0) ⌝ }
+{
+    State {
+        board: board::reset(),
+        place: 0,
+        at: 0,
+        result: 0,
+    }
+}
+
+// The number of sound places after one more place with the given result.
+fn sound_places(place: u32, result: u8) -> u32
+    requires { ⌜ place ≤ 65536 ⌝ }
+    ensures { λ r. ⌜ r ≤ place + 1 ⌝ }
+{
+    if result == 0 { place + 1 } else { place }
+}
+
+// Adds the lines of the next place to the log.
+fn log_place(s: State, bytes: &[u8], more: bool, out: &mut [u8]) -> State
+    requires { ⌜ s .place ≤ 65536 ⌝ }
     requires { ⌜ s .at ≤ 65536 ⌝ }
     requires { ⌜ length (now out) ≡ 65536 ⌝ }
+    ensures { λ r. ⌜ r .place ≤ s .place + 1 ⌝ }
     ensures { λ r. ⌜ r .at ≤ 65536 ⌝ }
 {
     let at = s.at;
     let board = s.board;
-    let p = log::print_place(board, place, bytes, more, &mut out[at..]);
+    let p = log::print_place(board, s.place, bytes, more, &mut out[at..]);
     let to = at + p.written;
     let next = p.board;
     State {
         board: next,
+        place: sound_places(s.place, p.result),
         at: to,
-        stopped: p.result != 0,
+        result: p.result,
     }
 }
 
@@ -146,23 +176,71 @@ fn log_file(file: &[u8], out: &mut [u8]) -> usize
     requires { ⌜ length (now out) ≡ 65536 ⌝ }
     ensures { λ r. ⌜ r ≤ length (now (out .exit)) ⌝ }
 {
-    let mut s = State {
-        board: board::reset(),
-        at: 0,
-        stopped: false,
-    };
+    let mut s = start();
     let mut from: usize = 0;
-    let mut place: u32 = 0;
     while from < file.len() {
-        if s.stopped {
+        if s.result != 0 {
             return s.at;
         }
         let to = block_end(from, file.len());
-        s = log_place(s, place, &file[from..to], to < file.len(), out);
+        s = log_place(s, &file[from..to], to < file.len(), out);
         from = to;
-        place += 1;
     }
     s.at
+}
+
+// A block of 31 accepted steps with the given number.
+fn steps_block(number: u32) -> [u8; 512] {
+    let records = [0u8; 496];
+    let mut block = [0u8; 512];
+    history::write_block(&mut block, &records, number);
+    block
+}
+
+// The log of n blocks of accepted steps, where more bytes follow them or none.
+fn log_blocks(n: u32, more: bool, out: &mut [u8]) -> State
+    requires { ⌜ n ≤ 65536 ⌝ }
+    requires { ⌜ length (now out) ≡ 65536 ⌝ }
+    ensures { λ r. ⌜ r .place ≤ 65536 ⌝ }
+    ensures { λ r. ⌜ r .at ≤ 65536 ⌝ }
+{
+    let mut s = start();
+    let mut i: u32 = 0;
+    while i < n {
+        if s.result != 0 {
+            return s;
+        }
+        let block = steps_block(i);
+        i += 1;
+        s = log_place(s, &block, more | (i < n), out);
+    }
+    s
+}
+
+// Adds the lines of the last bytes, where there are any and every place before them is sound.
+fn log_tail(s: State, bytes: &[u8], out: &mut [u8]) -> State
+    requires { ⌜ s .place ≤ 65536 ⌝ }
+    requires { ⌜ s .at ≤ 65536 ⌝ }
+    requires { ⌜ length (now out) ≡ 65536 ⌝ }
+    ensures { λ r. ⌜ r .at ≤ 65536 ⌝ }
+{
+    if (s.result != 0) | (bytes.len() == 0) {
+        return s;
+    }
+    log_place(s, bytes, false, out)
+}
+
+// The line that a log ends with, at the start of out, and its length, which is 0 for result 0.
+fn last_line(place: u32, result: u8, out: &mut [u8]) -> usize
+    requires { ⌜ length (now out) ≡ 65536 ⌝ }
+    ensures { λ r. ⌜ r ≤ 65536 ⌝ }
+{
+    if result == 0 {
+        return 0;
+    }
+    buffers::copy_to(b"block ", out, 0);
+    let at = text::put_entry(out, 6, place as u64, b' ');
+    text::put_entry(out, at, result as u64, b'\n')
 }
 
 // The number of the line that place `at` is in, counted from 1.
@@ -236,7 +314,7 @@ fn test_log(name: &[u8], file: &mut [u8], log: &mut [u8], out: &mut [u8])
     compare(&log[..m], &out[..w]);
 }
 
-// Tells `ok`, or what came in place of a row's result and number of bytes.
+// Tells `ok`, or what came in place of a row's result and last number.
 fn verdict(row: Row, result: u8, written: usize, sound: bool) {
     if sound & (result as u64 == row.result) & (written as u64 == row.bytes) {
         io::write_all(STDOUT_FILENO, b" ok\n");
@@ -280,6 +358,29 @@ fn reads_as(file: &[u8], h: &[u8], out: &mut [u8]) -> bool {
     }
 }
 
+// Whether a record, decoded and encoded, is the same.
+fn is_recoded(record: &[u8]) -> bool
+    requires { ⌜ length (now record) ≡ 16 ⌝ }
+{
+    let mut bytes = [0u8; 16];
+    buffers::copy_to(record, &mut bytes, 0);
+    let again = records::encode(records::decode(&bytes));
+    same(record, &again)
+}
+
+// Whether a history is of whole records, each the same after it is decoded and encoded.
+fn recoded(h: &[u8]) -> bool {
+    let mut at: usize = 0;
+    while h.len() - at >= 16 {
+        let next = at + 16;
+        if !is_recoded(&h[at..next]) {
+            return false;
+        }
+        at = next;
+    }
+    at == h.len()
+}
+
 // `read NAME ROOM RESULT BYTES`.
 fn test_read(name: &[u8], row: Row, file: &mut [u8], out: &mut [u8], back: &mut [u8])
     requires { ⌜ length (now file) ≡ 65536 ⌝ }
@@ -301,7 +402,8 @@ fn test_read(name: &[u8], row: Row, file: &mut [u8], out: &mut [u8], back: &mut 
         verdict(row, t.result, w, kept);
         return;
     }
-    verdict(row, 0, w, kept & writes_as(&out[..w], &file[..n], back));
+    let whole = kept & recoded(&out[..w]);
+    verdict(row, 0, w, whole & writes_as(&out[..w], &file[..n], back));
 }
 
 // `write LENGTH ROOM RESULT BYTES`.
@@ -327,6 +429,23 @@ fn test_write(n: usize, row: Row, file: &mut [u8], out: &mut [u8], back: &mut [u
         return;
     }
     verdict(row, 0, w, kept & reads_as(&out[..w], &file[..n], back));
+}
+
+// `long BLOCKS TAIL RESULT PLACE`.
+fn test_long(n: usize, row: Row, file: &mut [u8], out: &mut [u8], back: &mut [u8])
+    requires { ⌜ length (now file) ≡ 65536 ⌝ }
+    requires { ⌜ length (now out) ≡ 65536 ⌝ }
+    requires { ⌜ length (now back) ≡ 65536 ⌝ }
+    requires { ⌜ row .room ≤ 65536 ⌝ }
+    requires { ⌜ n ≤ 65536 ⌝ }
+{
+    let tail = row.room;
+    buffers::clear(file, 0, tail);
+    let blocks = log_blocks(n as u32, tail > 0, out);
+    let s = log_tail(blocks, &file[..tail], out);
+    let m = last_line(s.place, s.result, back);
+    let w = s.at;
+    verdict(row, s.result, s.place as usize, same(&back[..m], &out[..w]));
 }
 
 // Room, result and bytes of the row, from place `at` on.
@@ -359,7 +478,7 @@ fn test(line: &[u8], file: &mut [u8], out: &mut [u8], back: &mut [u8])
     let from = w + 1;
     let to = tables::word_end(line, from);
     let b = line[0];
-    if b == b'l' {
+    if (b == b'l') & (w == 3) {
         test_log(&line[from..to], file, back, out);
         return;
     }
@@ -369,6 +488,10 @@ fn test(line: &[u8], file: &mut [u8], out: &mut [u8], back: &mut [u8])
         return;
     }
     let n = tables::number_at(line, w);
+    if b == b'l' {
+        test_long(size(n.value), row, file, out, back);
+        return;
+    }
     test_write(size(n.value), row, file, out, back);
 }
 
