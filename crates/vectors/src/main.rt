@@ -2,15 +2,15 @@
 // `log NAME`: the lines printed for NAME.hist are those of NAME.log.
 // `read NAME ROOM RESULT BYTES`: so the reader answers NAME.hist with so many bytes of room.
 // `write LENGTH ROOM RESULT BYTES`: so the writer answers a history of so many zero bytes.
-// `long BLOCKS TAIL RESULT PLACE`: the log of so many full blocks of accepted steps, and behind
-// them so many zero bytes, at most 512, ends at this place with this result. Result 0 has no line,
-// any other only the line of its place. The blocks are made one by one and never kept.
+// `long BLOCKS TAIL RESULT PLACE`: the log of so many full blocks of accepted steps and, behind
+// them, so many zero bytes (at most 512) ends at this place with this result. The log is empty for
+// result 0, else only the line of this place. The blocks are made one by one and not kept.
 // A refused output is looked at whole, an accepted one past its end; what was read is written
 // again and must give the file, and what was written is read again. Each record that was read is
 // decoded and encoded and must be the same. Each line is repeated with `ok`, or with what differs:
 // of a log the line's number, what was expected and what came.
 ghost use mathlib.Core.Path.{_≡_};
-ghost use Prim.Native.Nat.{_<_, _≤_};
+ghost use Prim.Native.Nat.{_+_, _<_, _≤_};
 ghost use lib.ListN.{length};
 use board::Board;
 use libc::STDIN_FILENO;
@@ -217,30 +217,29 @@ fn log_blocks(n: u32, more: bool, out: &mut [u8]) -> State
     s
 }
 
-// Adds the lines of the last bytes, where there are any and every place before them is sound.
-fn log_tail(s: State, bytes: &[u8], out: &mut [u8]) -> State
-    requires { ⌜ s .place ≤ 65536 ⌝ }
-    requires { ⌜ s .at ≤ 65536 ⌝ }
+// The log of n blocks of accepted steps and of the bytes behind them.
+fn log_long(n: u32, tail: &[u8], out: &mut [u8]) -> State
+    requires { ⌜ n ≤ 65536 ⌝ }
     requires { ⌜ length (now out) ≡ 65536 ⌝ }
     ensures { λ r. ⌜ r .at ≤ 65536 ⌝ }
 {
-    if (s.result != 0) | (bytes.len() == 0) {
+    let s = log_blocks(n, tail.len() > 0, out);
+    if (s.result != 0) | (tail.len() == 0) {
         return s;
     }
-    log_place(s, bytes, false, out)
+    log_place(s, tail, false, out)
 }
 
-// The line that a log ends with, at the start of out, and its length, which is 0 for result 0.
-fn last_line(place: u32, result: u8, out: &mut [u8]) -> usize
-    requires { ⌜ length (now out) ≡ 65536 ⌝ }
-    ensures { λ r. ⌜ r ≤ 65536 ⌝ }
-{
+// Whether a log is the line of a place alone, and empty for result 0.
+fn is_place_line(place: u32, result: u8, log: &[u8]) -> bool {
     if result == 0 {
-        return 0;
+        return log.len() == 0;
     }
-    buffers::copy_to(b"block ", out, 0);
-    let at = text::put_entry(out, 6, place as u64, b' ');
-    text::put_entry(out, at, result as u64, b'\n')
+    let mut line = [0u8; 48];
+    buffers::copy_to(b"block ", &mut line, 0);
+    let at = text::put_entry(&mut line, 6, place as u64, b' ');
+    let end = text::put_entry(&mut line, at, result as u64, b'\n');
+    same(&line[..end], log)
 }
 
 // The number of the line that place `at` is in, counted from 1.
@@ -359,13 +358,13 @@ fn reads_as(file: &[u8], h: &[u8], out: &mut [u8]) -> bool {
 }
 
 // Whether a record, decoded and encoded, is the same.
-fn is_recoded(record: &[u8]) -> bool
-    requires { ⌜ length (now record) ≡ 16 ⌝ }
+fn is_recoded(bytes: &[u8]) -> bool
+    requires { ⌜ length (now bytes) ≡ 16 ⌝ }
 {
-    let mut bytes = [0u8; 16];
-    buffers::copy_to(record, &mut bytes, 0);
-    let again = records::encode(records::decode(&bytes));
-    same(record, &again)
+    let mut copy = [0u8; 16];
+    buffers::copy_to(bytes, &mut copy, 0);
+    let again = records::encode(records::decode(&copy));
+    same(bytes, &again)
 }
 
 // Whether a history is of whole records, each the same after it is decoded and encoded.
@@ -432,20 +431,18 @@ fn test_write(n: usize, row: Row, file: &mut [u8], out: &mut [u8], back: &mut [u
 }
 
 // `long BLOCKS TAIL RESULT PLACE`.
-fn test_long(n: usize, row: Row, file: &mut [u8], out: &mut [u8], back: &mut [u8])
+fn test_long(n: usize, row: Row, file: &mut [u8], out: &mut [u8])
     requires { ⌜ length (now file) ≡ 65536 ⌝ }
     requires { ⌜ length (now out) ≡ 65536 ⌝ }
-    requires { ⌜ length (now back) ≡ 65536 ⌝ }
     requires { ⌜ row .room ≤ 65536 ⌝ }
     requires { ⌜ n ≤ 65536 ⌝ }
 {
     let tail = row.room;
     buffers::clear(file, 0, tail);
-    let blocks = log_blocks(n as u32, tail > 0, out);
-    let s = log_tail(blocks, &file[..tail], out);
-    let m = last_line(s.place, s.result, back);
+    let s = log_long(n as u32, &file[..tail], out);
     let w = s.at;
-    verdict(row, s.result, s.place as usize, same(&back[..m], &out[..w]));
+    let sound = is_place_line(s.place, s.result, &out[..w]);
+    verdict(row, s.result, s.place as usize, sound);
 }
 
 // Room, result and bytes of the row, from place `at` on.
@@ -489,7 +486,7 @@ fn test(line: &[u8], file: &mut [u8], out: &mut [u8], back: &mut [u8])
     }
     let n = tables::number_at(line, w);
     if b == b'l' {
-        test_long(size(n.value), row, file, out, back);
+        test_long(size(n.value), row, file, out);
         return;
     }
     test_write(size(n.value), row, file, out, back);
