@@ -108,7 +108,7 @@ put-digits-returns-2 : (t : ℕ) → put-digits-lts.Need-returns-2 (
 ) (put-digits-at t) put-digits.Post
 put-digits-returns-2 t c =
     let st = c .before .before .before in
-    rw (digits-few (st .args .k) (st .args .v) (omega arith) (c .if2 .taken)) (refl, set-put _ _ _ (omega arith))
+    rw (digits-few (st .args .k) (st .args .v) (omega arith) (omega arith)) (refl, set-put _ _ _ (omega arith))
 
 put-digits-sub-put-digits : (t : ℕ) → put-digits-lts.Need-sub-put-digits (
   put-digits-below t,
