@@ -55,12 +55,17 @@ unfolding joined piece
 joined-piece w zero l = simp mul-zero
 joined-piece w (suc n) l = simp (joined-piece w n l, mul-suc) (sym (take-add (w * n) w l))
 
--- the part of a list from place w * k up to w more, or to its end
+-- the part of a list from place w * k up to w more
+pub part-whole : (w k : ℕ) (l : List ℕ) → take (w * k + w - w * k) (drop (w * k) l) ≡ piece w l k
+unfolding piece
+part-whole w k l = simp add-sub-cancel-left
+
+-- or to its end
 pub part-piece : (w k to : ℕ) (l : List ℕ) → to ≡ min (w * k + w) (length l) → take (to - w * k) (drop (w * k) l) ≡ piece w l k
 unfolding piece
 part-piece w k to l e =
     split (w * k + w) (length l)
-    (λ h. simp (e, min-eq-left h, add-sub-cancel-left))
+    (λ h. rw (e, min-eq-left h) (part-whole w k l))
     (λ h.
     let f : to ≡ length l = e ∙ min-eq-right (le-of-lt h) in
     let here : length (drop (w * k) l) ≤ w = simp length-drop (omega arith) in

@@ -113,7 +113,6 @@ pub little-low : (w n q : ℕ) → little w (n + 256 ^ w * q) ≡ little w n
 unfolding little
 little-low zero n q = refl
 little-low (suc w) n q =
-    let x : ℕ = 256 ^ w * q in
     let p : 256 ^ suc w * q ≡ 256 * (256 ^ w * q) = rw (pow-succ' 256 w) (mul-assoc 256 (256 ^ w) q) in
     let digit : (n + 256 * (256 ^ w * q)) % 256 ≡ n % 256 = omega arith in
     let above : (n + 256 * (256 ^ w * q)) / 256 ≡ n / 256 + 256 ^ w * q = omega arith in

@@ -13,6 +13,7 @@ ghost use mathlib.Core.Path.{_≡_};
 ghost use Prim.Native.Nat.{_+_, _<_, _≤_};
 ghost use lib.ListN.{length};
 use board::Board;
+use history::Transfer;
 use libc::STDIN_FILENO;
 use libc::STDOUT_FILENO;
 
@@ -329,32 +330,29 @@ fn verdict(row: Row, result: u8, written: usize, sound: bool) {
     io::write_all(STDOUT_FILENO, b"\n");
 }
 
-// Whether the history in the first n bytes, written, gives the file.
-fn writes_as(h: &[u8], file: &[u8], out: &mut [u8]) -> bool {
-    let t = history::write(h, out);
+// Whether a transfer was accepted and left what is expected at the start of out.
+fn gives(t: Transfer, expected: &[u8], out: &[u8]) -> bool {
     let n = t.written;
     if n > out.len() {
         return false;
     }
     if t.result == 0 {
-        same(file, &out[..n])
+        same(expected, &out[..n])
     } else {
         false
     }
 }
 
+// Whether the history, written, gives the file.
+fn writes_as(h: &[u8], file: &[u8], out: &mut [u8]) -> bool {
+    let t = history::write(h, out);
+    gives(t, file, out)
+}
+
 // Whether the file, read, gives the history.
 fn reads_as(file: &[u8], h: &[u8], out: &mut [u8]) -> bool {
     let t = history::read(file, out);
-    let n = t.written;
-    if n > out.len() {
-        return false;
-    }
-    if t.result == 0 {
-        same(h, &out[..n])
-    } else {
-        false
-    }
+    gives(t, h, out)
 }
 
 // Whether a record, decoded and encoded, is the same.
