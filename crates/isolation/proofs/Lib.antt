@@ -1,0 +1,12 @@
+pub mod Cases
+pub mod TwoRuns
+pub mod Stores
+pub mod Placed
+pub mod Seen
+pub mod Told
+pub mod Local
+pub mod Sets
+pub mod Latest
+pub mod Tells
+pub mod Events
+pub mod Isolation

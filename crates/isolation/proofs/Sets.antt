@@ -1,0 +1,161 @@
+-- What the calls and the step do to the settings: only call 1 sets a mode, 4 a route, 13 a source and 22 the control, to V, where they are answered 0.
+-- This is the one file that goes through the kinds.
+-- Assumes nothing.
+use mathlib.Core.Path.{_≡_, refl, ap, _∙_}
+use mathlib.Core.Bool.{Bool, true, false, cond, _&&_}
+use Prim.Native.Nat.{ℕ}
+use lib.Dec.{eqb, ltb}
+use borrow.Author.Tests.{eqb-true}
+use Rattle.words.proofs.Cases.{tested, either}
+use Rattle.counter.specs.Mode.{TP}
+use Rattle.counter.specs.Setters.{withMode, withRoute}
+use Rattle.counter.specs.Queue.{captured, popped}
+use Rattle.counter.specs.Preload.{preloaded, started}
+use Rattle.counter.specs.Advance.{Inputs, nextOf, settled, advance}
+use Rattle.counter.specs.declared.Channel.{Channel}
+use Rattle.counter.specs.declared.Next.{Next}
+use Rattle.ports.specs.declared.Pin.{Pin}
+use Rattle.control.specs.declared.Core.{Core}
+use Rattle.calls.specs.Reply.{Reply, reply, refuse, accept}
+use Rattle.calls.specs.ChannelCalls.{modeWrite, routeWrite, snapshotRead, channelCall}
+use Rattle.calls.specs.PinCalls.{pinCall}
+use Rattle.calls.specs.BoardCalls.{intervalWrite, boardCall}
+use Rattle.calls.specs.declared.Event.{Event}
+use Rattle.calls.specs.declared.Answer.{Answer}
+
+-- a kind is not two numbers
+pub other : (k a b : ℕ) → eqb k a ≡ true → eqb a b ≡ false → eqb k b ≡ false
+other k a b h d = ap (λ n. eqb n b) (eqb-true k a h) ∙ d
+
+-- a setting after a call: V if it is the call that sets it and it is accepted, else what it was
+abbrev pub setBy : Bool → Answer → ℕ → ℕ → ℕ
+setBy u a v old = cond (u && eqb (a .result) 0) v old
+
+-- ---- channels
+
+-- d has the settings of c
+pub record Alike (c d : Channel) : Type 0 where
+  pub mode : d .mode ≡ c .mode
+  pub route : d .route ≡ c .route
+
+module _ (c : Channel) where
+  captured-alike : (n t r : ℕ) (d : Channel) → Alike c d → Alike c (captured n t r d)
+  unfolding captured
+  captured-alike n t r d a = either (Alike c) (ltb (d .held) 16) (record { mode = a .mode; route = a .route }) (record { mode = a .mode; route = a .route })
+
+  preloaded-alike : (d : Channel) → Alike c d → Alike c (preloaded d)
+  unfolding preloaded
+  preloaded-alike d a = record { mode = a .mode; route = a .route }
+
+  started-alike : Alike c (started c)
+  unfolding started
+  started-alike =
+      let same : Alike c c = record { mode = refl; route = refl } in
+      either (Alike c) (c .running) same
+      (either (Alike c) (TP (c .mode) 24) (preloaded-alike _ (record { mode = refl; route = refl })) (record { mode = refl; route = refl }))
+
+  popped-alike : Alike c (popped c)
+  unfolding popped
+  popped-alike = record { mode = refl; route = refl }
+
+  settled-alike : (now timestamp : ℕ) (n : Next) → Alike c (settled now timestamp n c)
+  unfolding settled
+  settled-alike now timestamp n =
+      either (Alike c) (eqb (n .caught) 0) (record { mode = refl; route = refl }) (captured-alike _ _ _ _ (record { mode = refl; route = refl }))
+
+  pub advance-alike : (i : Inputs) → Alike c (advance i c)
+  unfolding advance
+  advance-alike i = settled-alike (i .now) (i .timestamp) (nextOf i c)
+
+  -- u: it is call 1, w: it is call 4
+  pub record SetChannel (u w : Bool) (v : ℕ) (r : Reply Channel) : Type 0 where
+    pub mode : r .state .mode ≡ setBy u (r .answer) v (c .mode)
+    pub route : r .state .route ≡ setBy w (r .answer) v (c .route)
+
+  -- a reply that keeps the settings, by a call that sets none
+  keeping : {u w : Bool} {v : ℕ} {d : Channel} {a : Answer} → u ≡ false → w ≡ false → Alike c d → SetChannel u w v (reply d a)
+  keeping h j s = record { mode = rw h (s .mode); route = rw j (s .route) }
+
+  -- a refusal by the channel
+  refusing : (u w : Bool) (v n : ℕ) → eqb n 0 ≡ false → SetChannel u w v (refuse n c)
+  refusing true true v n h = record { mode = rw h refl; route = rw h refl }
+  refusing true false v n h = record { mode = rw h refl; route = refl }
+  refusing false true v n h = record { mode = refl; route = rw h refl }
+  refusing false false v n h = record { mode = refl; route = refl }
+
+  mode-set : (v : ℕ) → SetChannel true false v (modeWrite v c)
+  unfolding modeWrite
+  mode-set v =
+      let written : SetChannel true false v (accept (withMode v c)) = record { mode = refl; route = refl } in
+      either (SetChannel true false v) (c .running) (refusing true false v 4 refl) written
+
+  route-set : (v : ℕ) → SetChannel false true v (routeWrite v c)
+  unfolding routeWrite
+  route-set v =
+      let written : SetChannel false true v (accept (withRoute v c)) = record { mode = refl; route = refl } in
+      either (SetChannel false true v) (c .running) (refusing false true v 4 refl) written
+
+  read-set : {u w : Bool} (v : ℕ) → u ≡ false → w ≡ false → SetChannel u w v (snapshotRead c)
+  unfolding snapshotRead
+  read-set {u} {w} v h j =
+      let S = SetChannel u w v in
+      either S (ltb 0 (c .lost)) (keeping h j (record { mode = refl; route = refl }))
+      (either S (eqb (c .held) 0) (refusing u w v 5 refl) (keeping h j popped-alike))
+
+  pub channel-set : (t : ℕ) (e : Event) → SetChannel (eqb (e .kind) 1) (eqb (e .kind) 4) (e .v) (channelCall t e c)
+  unfolding channelCall
+  channel-set t e =
+      let k = e .kind in
+      let S = SetChannel (eqb k 1) (eqb k 4) (e .v) in
+      let same : Alike c c = record { mode = refl; route = refl } in
+      tested S (eqb k 1) (λ h. rw (h, other k 1 4 h refl) (mode-set (e .v))) (λ h1.
+      tested S (eqb k 2) (λ h. keeping h1 (other k 2 4 h refl) (record { mode = refl; route = refl })) (λ _.
+      tested S (eqb k 3) (λ h. keeping h1 (other k 3 4 h refl) (record { mode = refl; route = refl })) (λ _.
+      tested S (eqb k 4) (λ h. rw (h1, h) (route-set (e .v))) (λ h4.
+      either S (eqb k 5) (keeping h1 h4 (record { mode = refl; route = refl }))
+      (either S (eqb k 6) (keeping h1 h4 started-alike)
+      (either S (eqb k 7) (keeping h1 h4 (record { mode = refl; route = refl }))
+      (either S (eqb k 8) (keeping h1 h4 (captured-alike _ _ _ _ same))
+      (either S (eqb k 9) (keeping h1 h4 (preloaded-alike _ same))
+      (either S (eqb k 10) (keeping h1 h4 same)
+      (either S (eqb k 11) (read-set (e .v) h1 h4)
+      (keeping h1 h4 same)))))))))))
+
+-- ---- pins and the board's own part
+
+pub record SetPin (u : Bool) (v : ℕ) (q : Pin) (r : Reply Pin) : Type 0 where
+  pub source : r .state .source ≡ setBy u (r .answer) v (q .source)
+
+pin-keeping : {u : Bool} {v : ℕ} {q d : Pin} {a : Answer} → u ≡ false → d .source ≡ q .source → SetPin u v q (reply d a)
+pin-keeping h s = record { source = rw h s }
+
+pub pin-set : (q : Pin) (writes : Bool) (e : Event) → SetPin (eqb (e .kind) 13) (e .v) q (pinCall writes e q)
+unfolding pinCall
+pin-set q writes e =
+    let k = e .kind in
+    let S = SetPin (eqb k 13) (e .v) q in
+    tested S (eqb k 13) (λ h. record { source = rw h refl }) (λ h.
+    either S (eqb k 14) (pin-keeping h refl)
+    (either S (eqb k 15) (pin-keeping h (either (λ (x : Pin). x .source ≡ q .source) writes refl refl))
+    (either S (eqb k 16) (pin-keeping h (either (λ (x : Pin). x .source ≡ q .source) writes refl refl))
+    (pin-keeping h refl))))
+
+pub record SetCore (u : Bool) (v : ℕ) (k : Core) (r : Reply Core) : Type 0 where
+  pub control : r .state .safety .control ≡ setBy u (r .answer) v (k .safety .control)
+
+core-keeping : {u : Bool} {v : ℕ} {k d : Core} {a : Answer} → u ≡ false → d .safety .control ≡ k .safety .control → SetCore u v k (reply d a)
+core-keeping h s = record { control = rw h s }
+
+pub core-set : (k : Core) (e : Event) → SetCore (eqb (e .kind) 22) (e .v) k (boardCall e k)
+unfolding boardCall intervalWrite
+core-set k e =
+    let n = e .kind in
+    let S = SetCore (eqb n 22) (e .v) k in
+    tested S (eqb n 22) (λ h. record { control = rw h refl }) (λ h.
+    either S (eqb n 23) (core-keeping h refl)
+    (either S (eqb n 24) (core-keeping h refl)
+    (either S (eqb n 25) (either S (k .watchdog .enabled) (core-keeping h refl) (core-keeping h refl))
+    (either S (eqb n 26) (core-keeping h refl)
+    (either S (eqb n 27) (core-keeping h refl)
+    (either S (eqb n 28) (core-keeping h refl)
+    (core-keeping h refl)))))))

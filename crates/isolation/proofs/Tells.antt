@@ -1,0 +1,173 @@
+-- Every event leaves the settings that the list tells and those of the board equal.
+-- Assumes nothing.
+use mathlib.Core.Path.{_≡_, refl, ap, sym, _∙_}
+use mathlib.Core.Bool.{true, false}
+use Prim.Native.Nat.{ℕ, _<_}
+use native.Mathlib.Omega.{arith}
+use lib.Dec.{eqb, ltb}
+use lib.ListN.{getD-replicate}
+use borrow.Author.Tests.{ltb-true, eqb-false, eq-eqb, ne-eqb}
+use Rattle.words.proofs.BitLaws.{bit-none}
+use Rattle.words.proofs.Cases.{tested}
+use Rattle.counter.specs.Repair.{noChannel, resetChannel}
+use Rattle.counter.specs.declared.Channel.{Channel}
+use Rattle.ports.specs.Pins.{pinAt, sensedWith, driven, resetPins}
+use Rattle.ports.specs.declared.Pin.{Pin}
+use Rattle.control.specs.Safety.{guarded}
+use Rattle.control.specs.Whole.{resetCore}
+use Rattle.calls.specs.Reply.{Reply, refuse}
+use Rattle.calls.specs.Fields.{fits}
+use Rattle.calls.specs.ChannelCalls.{channelCall}
+use Rattle.calls.specs.PinCalls.{pinCall}
+use Rattle.calls.specs.BoardCalls.{boardCall}
+use Rattle.calls.specs.declared.Event.{Event}
+use Rattle.calls.specs.declared.Answer.{Answer}
+use Rattle.board.specs.Inputs.{channelIn, channelNext, allNext}
+use Rattle.board.specs.Step.{coreNext, stepWith, stepped}
+use Rattle.board.specs.Respond.{Class, step, channel, pin, virtual, board, unknown, classOf, checked, respondBy, respondWith, respond}
+use Rattle.board.specs.Handed.{resetBoard}
+use Rattle.board.specs.declared.Board.{Board}
+use Rattle.reach.specs.Range.{InRange}
+use Rattle.reach.proofs.Tables.{getD-tab}
+use Rattle.reach.proofs.RangedPins.{pin-sound, pin-ranged}
+use Rattle.isolation.specs.Settings.{Settings, untold, latest, told}
+use Rattle.isolation.proofs.Placed.{channels-placed, source-held, pins-placed}
+use Rattle.isolation.proofs.Told.{Told}
+use Rattle.isolation.proofs.Sets.{setBy, advance-alike, SetChannel, channel-set, SetPin, pin-set, core-set}
+use Rattle.isolation.proofs.Latest.{of-another-kind, not-accepted, on-it, put-told}
+
+-- ---- before the first event
+
+pub told-at-reset : Told untold resetBoard
+unfolding untold resetBoard resetChannel resetPins pinAt resetCore
+told-at-reset = record {
+  mode = λ c h. ap (λ (x : Channel). x .mode) (getD-replicate 6 c resetChannel noChannel h);
+  route = λ c h. ap (λ (x : Channel). x .route) (getD-replicate 6 c resetChannel noChannel h);
+  source = λ p h. rw (bit-none p) refl;
+  control = refl;
+}
+
+-- ---- events that tell nothing
+
+-- call k is not among what the event tells
+abbrev Silent : Event → Answer → ℕ → Type 0
+Silent e a k = (i old : ℕ) → latest k i e a old ≡ old
+
+-- a board with the settings of b
+pub record Kept (b d : Board) : Type 0 where
+  pub mode : (c : ℕ) → c < 6 → channelIn (d .channels) c .mode ≡ channelIn (b .channels) c .mode
+  pub route : (c : ℕ) → c < 6 → channelIn (d .channels) c .route ≡ channelIn (b .channels) c .route
+  pub source : (p : ℕ) → p < 48 → pinAt (d .pins) p .source ≡ pinAt (b .pins) p .source
+  pub control : d .core .safety .control ≡ b .core .safety .control
+
+pub unmoved : (b : Board) → Kept b b
+unmoved b = record { mode = λ c h. refl; route = λ c h. refl; source = λ p h. refl; control = refl }
+
+quiet : (t : Settings) (b d : Board) (e : Event) (a : Answer) → Told t b → Kept b d → Silent e a 1 → Silent e a 4 → Silent e a 13 → Silent e a 22 → Told (told t e a) d
+unfolding told
+quiet t b d e a m k k1 k4 k13 k22 = record {
+  mode = λ c h. k .mode c h ∙ m .mode c h ∙ sym (k1 c (t .mode c));
+  route = λ c h. k .route c h ∙ m .route c h ∙ sym (k4 c (t .route c));
+  source = λ p h. k .source p h ∙ m .source p h ∙ sym (k13 p (t .source p));
+  control = k .control ∙ m .control ∙ sym (k22 0 (t .control));
+}
+
+-- the kinds of one class are no kinds of another
+abbrev pub code : Class → ℕ
+code step = 0
+code channel = 1
+code pin = 2
+code virtual = 3
+code board = 4
+code unknown = 5
+
+module _ (e : Event) (a : Answer) where
+  of-class : (C : Class) → classOf (e .kind) ≡ C → (k : ℕ) → eqb (code C) (code (classOf k)) ≡ false → Silent e a k
+  of-class C p k d i old = of-another-kind k i e a old (ne-eqb (e .kind) k (λ h. eqb-false (code C) (code (classOf k)) d (ap code (sym p ∙ ap classOf h))))
+
+  pub step-quiet : (t : Settings) (b d : Board) → classOf (e .kind) ≡ step → Told t b → Kept b d → Told (told t e a) d
+  step-quiet t b d p m k =
+      quiet t b d e a m k (of-class step p 1 refl) (of-class step p 4 refl) (of-class step p 13 refl) (of-class step p 22 refl)
+
+-- ---- the step
+
+stepped-keeps : (v w : ℕ) (b : Board) → Kept b (stepped v w b)
+unfolding stepped stepWith allNext channelNext coreNext guarded driven sensedWith pinAt
+stepped-keeps v w b = record {
+  mode = λ c h. ap (λ (x : Channel). x .mode) (getD-tab 6 _ c noChannel h) ∙ advance-alike (channelIn (b .channels) c) _ .mode;
+  route = λ c h. ap (λ (x : Channel). x .route) (getD-tab 6 _ c noChannel h) ∙ advance-alike (channelIn (b .channels) c) _ .route;
+  source = λ p h. refl;
+  control = refl;
+}
+
+-- ---- every event
+
+-- the reply r to the event e
+record Telling (t : Settings) (e : Event) (r : Reply Board) : Type 0 where
+  after : Told (told t e (r .answer)) (r .state)
+
+module _ (t : Settings) (b : Board) (e : Event) (m : Told t b) (range : InRange b) where
+  refused : (n : ℕ) → eqb n 0 ≡ false → Telling t e (refuse n b)
+  refused n h = record { after = quiet t b b e _ m (unmoved b) (silent 1) (silent 4) (silent 13) (silent 22) }
+    where
+      silent : (k : ℕ) → Silent e (record { result = n; value = 0; timestamp = 0; reason = 0 }) k
+      silent k i old = not-accepted k i e _ old h
+
+  within : (n : ℕ) (r : Reply Board) → (e .member < n → fits e ≡ true → Telling t e r) → Telling t e (checked n e b r)
+  within n r s =
+      tested (Telling t e) (ltb (e .member) n)
+      (λ h. tested (Telling t e) (fits e) (s (ltb-true _ _ h)) (λ _. refused 3 refl))
+      (λ _. refused 1 refl)
+
+  by-class : (C : Class) → classOf (e .kind) ≡ C → Telling t e (respondBy stepped C b e)
+  unfolding respondBy told
+  by-class step p =
+      tested (Telling t e) (fits e)
+      (λ _. record { after = step-quiet e _ t b (stepped (e .v) (e .w) b) p m (stepped-keeps (e .v) (e .w) b) })
+      (λ _. refused 3 refl)
+  by-class channel p = within 6 _ (λ k f.
+      let c : Channel = channelIn (b .channels) (e .member) in
+      let q : Reply Channel = channelCall (b .core .clock .timestamp) e c in
+      let s : SetChannel c (eqb (e .kind) 1) (eqb (e .kind) 4) (e .v) q = channel-set c _ e in
+      record {
+        after = record {
+          mode = put-told 6 channelIn (b .channels) (channels-placed (b .channels) (range .six)) (λ x. x .mode) 1 e q (t .mode) k (s .mode) (m .mode);
+          route = put-told 6 channelIn (b .channels) (channels-placed (b .channels) (range .six)) (λ x. x .route) 4 e q (t .route) k (s .route) (m .route);
+          source = λ i h. m .source i h ∙ sym (of-class e _ channel p 13 refl i (t .source i));
+          control = m .control ∙ sym (of-class e _ channel p 22 refl 0 (t .control));
+        };
+      })
+  by-class pin p = within 48 _ (λ k f.
+      let x : Pin = pinAt (b .pins) (e .member) in
+      let q : Reply Pin = pinCall (b .core .safety .writes) e x in
+      let s : SetPin (eqb (e .kind) 13) (e .v) x q = pin-set x _ e in
+      record {
+        after = record {
+          mode = λ c h. m .mode c h ∙ sym (of-class e _ pin p 1 refl c (t .mode c));
+          route = λ c h. m .route c h ∙ sym (of-class e _ pin p 4 refl c (t .route c));
+          source =
+              put-told 48 pinAt (b .pins) (pins-placed (b .pins)) (λ x. x .source) 13 e q (t .source) k
+              (source-held (q .state) (pin-sound x (pin-ranged (b .pins) (range .pins) (e .member) k) _ e f .ranged .source) ∙ s .source) (m .source);
+          control = m .control ∙ sym (of-class e _ pin p 22 refl 0 (t .control));
+        };
+      })
+  by-class virtual p = within 6 _ (λ k f. record {
+    after = quiet t b _ e _ m (record { mode = λ c h. refl; route = λ c h. refl; source = λ p h. refl; control = refl })
+        (of-class e _ virtual p 1 refl) (of-class e _ virtual p 4 refl) (of-class e _ virtual p 13 refl) (of-class e _ virtual p 22 refl);
+  })
+  by-class board p = within 1 _ (λ k f. record {
+    after = record {
+      mode = λ c h. m .mode c h ∙ sym (of-class e _ board p 1 refl c (t .mode c));
+      route = λ c h. m .route c h ∙ sym (of-class e _ board p 4 refl c (t .route c));
+      source = λ i h. m .source i h ∙ sym (of-class e _ board p 13 refl i (t .source i));
+      control =
+          core-set (b .core) e .control
+          ∙ ap (λ z. setBy (eqb (e .kind) 22) (boardCall e (b .core) .answer) (e .v) z) (m .control)
+          ∙ sym (on-it 22 0 e _ (t .control) (eq-eqb (e .member) 0 (omega arith)));
+    };
+  })
+  by-class unknown p = refused 2 refl
+
+  pub respond-tells : Told (told t e (respond b e .answer)) (respond b e .state)
+  unfolding respond respondWith
+  respond-tells = by-class (classOf (e .kind)) refl .after

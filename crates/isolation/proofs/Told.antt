@@ -1,0 +1,14 @@
+-- What holds of a board after a list of events that told the settings t: they are the board's, and every field is in its range.
+-- Assumes nothing.
+use mathlib.Core.Path.{_≡_}
+use Prim.Native.Nat.{ℕ, _<_}
+use Rattle.ports.specs.Pins.{pinAt}
+use Rattle.board.specs.Inputs.{channelIn}
+use Rattle.board.specs.declared.Board.{Board}
+use Rattle.isolation.specs.Settings.{Settings}
+
+pub record Told (t : Settings) (b : Board) : Type 0 where
+  pub mode : (c : ℕ) → c < 6 → channelIn (b .channels) c .mode ≡ t .mode c
+  pub route : (c : ℕ) → c < 6 → channelIn (b .channels) c .route ≡ t .route c
+  pub source : (p : ℕ) → p < 48 → pinAt (b .pins) p .source ≡ t .source p
+  pub control : b .core .safety .control ≡ t .control
