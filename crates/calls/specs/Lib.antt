@@ -4,3 +4,4 @@ pub mod ChannelCalls
 pub mod PinCalls
 pub mod VirtualCalls
 pub mod BoardCalls
+pub mod Events

@@ -10,3 +10,4 @@ pub mod Latest
 pub mod Tells
 pub mod Events
 pub mod Isolation
+pub mod Tests

@@ -5,3 +5,4 @@ pub mod Closed
 pub mod Remainder
 pub mod Same
 pub mod Claim
+pub mod Tests

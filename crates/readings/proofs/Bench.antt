@@ -25,8 +25,8 @@ use Rattle.board.specs.Inputs.{extouts, indexOf, samplesOf, inputsOf, channelNe
 use Rattle.board.specs.Respond.{respondBy, respondWith, respond}
 use Rattle.board.specs.Runs.{finish}
 use Rattle.board.specs.Step.{sceneOf, coreNext, stepWith, stepped}
-use Rattle.readings.specs.Readings.{call, preload1, steps, lines, seen, read, delay, cascade, turn, error, seventeen, pulses, table}
+use Rattle.readings.specs.Readings.{preload1, steps, traced, seen, read, delay, cascade, turn, error, seventeen, pulses, table}
 
 pub readings : map read table ≡ map (λ r. r .numbers) table
-unfolding bit word tab difference masked caughtOf finished live resting nextOf settled advance clocked preloaded started captured popped resetChannel pinAt putPin pinLevel sensedWith driven resetPins virtualAt putVirtual virtualLevels resetVirtuals routed advanced ticks guarded watched kicked switched resetCore intervalWrite boardCall modeWrite registerWrite routeWrite snapshotRead channelCall limits limit fits pinCall virtualCall resetBoard extouts indexOf samplesOf inputsOf channelNext allNext respondBy respondWith respond finish sceneOf coreNext stepWith stepped call preload1 steps lines seen read delay cascade turn error seventeen pulses table
+unfolding bit word tab difference masked caughtOf finished live resting nextOf settled advance clocked preloaded started captured popped resetChannel pinAt putPin pinLevel sensedWith driven resetPins virtualAt putVirtual virtualLevels resetVirtuals routed advanced ticks guarded watched kicked switched resetCore intervalWrite boardCall modeWrite registerWrite routeWrite snapshotRead channelCall limits limit fits pinCall virtualCall resetBoard extouts indexOf samplesOf inputsOf channelNext allNext respondBy respondWith respond finish sceneOf coreNext stepWith stepped preload1 steps traced seen read delay cascade turn error seventeen pulses table
 readings = refl

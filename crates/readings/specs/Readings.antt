@@ -4,6 +4,7 @@ use mathlib.Core.List.{List, [], _∷_, _++_, map}
 use Prim.Native.Nat.{ℕ}
 use lib.ListN.{replicate}
 use Rattle.words.specs.Bits.{flag}
+use Rattle.calls.specs.Events.{call, lines}
 use Rattle.calls.specs.declared.Event.{Event}
 use Rattle.calls.specs.declared.Answer.{Answer}
 use Rattle.board.specs.Inputs.{channelIn}
@@ -14,21 +15,17 @@ use Rattle.board.specs.declared.Board.{Board}
 
 -- ---- events
 
--- a call of kind k on member m with argument v
-unfoldable pub call : ℕ → ℕ → ℕ → Event
-call k m v = record { kind = k; member = m; selector = 0; spare = 0; v = v; w = 0 }
-
 -- a preload write to register 1
 unfoldable pub preload1 : ℕ → ℕ → Event
 preload1 m v = record { kind = 2; member = m; selector = 1; spare = 0; v = v; w = 0 }
 
 -- n steps with every line down
 unfoldable pub steps : ℕ → List Event
-steps n = replicate n (call 0 0 0)
+steps n = replicate n (lines 0 0)
 
 -- the steps with the lines of channel 0 at A + 2 B
-unfoldable pub lines : List ℕ → List Event
-lines l = map (call 0 0) l
+unfoldable pub traced : List ℕ → List Event
+traced l = map (λ v. lines v 0) l
 
 -- ---- what is looked at after the events
 
@@ -71,11 +68,11 @@ cascade m n = call 1 m 0x30 ∷ call 2 m 4294967295 ∷ call 9 m 0 ∷ call 6 m 
 
 -- e: channel 0 by a quadrature mode, through 00, 10, 11, 01, 00
 unfoldable pub turn : ℕ → List Event
-turn mode = call 1 0 mode ∷ call 6 0 0 ∷ lines (1 ∷ 3 ∷ 2 ∷ 0 ∷ [])
+turn mode = call 1 0 mode ∷ call 6 0 0 ∷ traced (1 ∷ 3 ∷ 2 ∷ 0 ∷ [])
 
 -- f: both lines change at once
 unfoldable pub error : List Event
-error = call 1 0 0x70 ∷ call 5 0 256 ∷ call 6 0 0 ∷ lines (3 ∷ [])
+error = call 1 0 0x70 ∷ call 5 0 256 ∷ call 6 0 0 ∷ traced (3 ∷ [])
 
 -- g: seventeen soft snapshots
 unfoldable pub seventeen : List Event
