@@ -32,7 +32,7 @@ use Rattle.reach.proofs.RangedBoard.{respond-sound}
 use Rattle.isolation.specs.Members.{Members}
 use Rattle.isolation.specs.Settings.{Settings, told}
 use Rattle.isolation.specs.Closed.{Closed}
-use Rattle.isolation.specs.Remainder.{onOutsider, isNowhere, isRefusedStep, struck, masked, shown}
+use Rattle.isolation.specs.Remainder.{onOutsider, isNowhere, isRefusedStep, struck, cleared, shown}
 use Rattle.isolation.proofs.Cases.{neither}
 use Rattle.isolation.proofs.TwoRuns.{Follows}
 use Rattle.isolation.proofs.Stores.{put-both, put-outside}
@@ -122,29 +122,29 @@ ends s w v x y z h =
     (and-eq-true-iff s w .0 (two .0) .0, five .1)
 
 -- a step whose fields fit is one too with the outsiders' bits put to 0
-masked-fits : (M : Members) (e : Event) → eqb (e .kind) 0 ≡ true → fits e ≡ true → fits (masked M e) ≡ true
-unfolding fits masked limit limits
-masked-fits M e z f =
+cleared-fits : (M : Members) (e : Event) → eqb (e .kind) 0 ≡ true → fits e ≡ true → fits (cleared M e) ≡ true
+unfolding fits cleared limit limits
+cleared-fits M e z f =
     let k = e .kind in
     let first : Bool = eqb (e .spare) 0 && ltb (e .selector) (cond (eqb k 2 || eqb k 3) 2 1) in
     let last : Bool = not (eqb k 0) || eqb (e .member) 0 in
     let both : (first ≡ true) × (last ≡ true) =
     ends first (ltb (e .w) (cond (eqb k 0) (2 ^ 48) 1)) (ltb (e .v) (limit k)) (not (eqb k 1) || goodMode (e .v)) (not (eqb k 25) || not (eqb (e .v) 0)) last f in
-    let w : ltb (masked M e .w) (cond (eqb k 0) (2 ^ 48) 1) ≡ true = rw z (lt-ltb _ (2 ^ 48) (word-lt 48 _)) in
-    let v : ltb (masked M e .v) (limit k) ≡ true = ap (λ n. ltb (masked M e .v) (limit n)) (eqb-true k 0 z) ∙ lt-ltb _ (2 ^ 18) (word-lt 18 _) in
-    let mode : (not (eqb k 1) || goodMode (masked M e .v)) ≡ true = ap (λ n. not (eqb n 1) || goodMode (masked M e .v)) (eqb-true k 0 z) in
-    let interval : (not (eqb k 25) || not (eqb (masked M e .v) 0)) ≡ true = ap (λ n. not (eqb n 25) || not (eqb (masked M e .v) 0)) (eqb-true k 0 z) in
+    let w : ltb (cleared M e .w) (cond (eqb k 0) (2 ^ 48) 1) ≡ true = rw z (lt-ltb _ (2 ^ 48) (word-lt 48 _)) in
+    let v : ltb (cleared M e .v) (limit k) ≡ true = ap (λ n. ltb (cleared M e .v) (limit n)) (eqb-true k 0 z) ∙ lt-ltb _ (2 ^ 18) (word-lt 18 _) in
+    let mode : (not (eqb k 1) || goodMode (cleared M e .v)) ≡ true = ap (λ n. not (eqb n 1) || goodMode (cleared M e .v)) (eqb-true k 0 z) in
+    let interval : (not (eqb k 25) || not (eqb (cleared M e .v) 0)) ≡ true = ap (λ n. not (eqb n 25) || not (eqb (cleared M e .v) 0)) (eqb-true k 0 z) in
     ap₂ _&&_ (ap₂ _&&_ (ap₂ _&&_ (ap₂ _&&_ (ap₂ _&&_ (both .0) w) v) mode) interval) (both .1)
 
 module _ (M : Members) (t : Settings) (b h : Board) (told : Told t b) (closed : Closed M t) (seen : Seen M b h) (e : Event) where
   step-kept : eqb (e .kind) 0 ≡ true → isRefusedStep e (respondBy stepped step b e .answer) ≡ false
-      → Follows (Seen M) (respondBy stepped step b e) (respondBy stepped step h (masked M e))
-  unfolding respondBy masked
+      → Follows (Seen M) (respondBy stepped step b e) (respondBy stepped step h (cleared M e))
+  unfolding respondBy cleared
   step-kept z r = go (fits e) refl
     where
-      go : (u : Bool) → fits e ≡ u → Follows (Seen M) (respondBy stepped step b e) (respondBy stepped step h (masked M e))
+      go : (u : Bool) → fits e ≡ u → Follows (Seen M) (respondBy stepped step b e) (respondBy stepped step h (cleared M e))
       go true f =
-          rw (f, masked-fits M e z f) (record {
+          rw (f, cleared-fits M e z f) (record {
             answer = refl;
             state = step-same M t closed b h told seen (e .v) (e .w) _ _ (kept-agree 18 (λ i. M .isChannel (i / 3)) (e .v)) (kept-agree 48 (M .isPin) (e .w));
           })
@@ -163,7 +163,7 @@ later k h p =
 module _ (M : Members) (t : Settings) (b h : Board) (m : Told t b) (seen : Seen M b h) (left : InRange b) (right : InRange h) (e : Event) where
   pub respond-kept : Closed M (told t e (respond b e .answer)) → struck M e (respond b e .answer) ≡ false
       → Follows (Seen M) (respond b e) (respond h (shown M e))
-  unfolding respond respondWith struck shown masked
+  unfolding respond respondWith struck shown cleared
   respond-kept closed s = go (eqb (e .kind) 0) refl
     where
       a : Answer
@@ -180,7 +180,7 @@ module _ (M : Members) (t : Settings) (b h : Board) (m : Told t b) (seen : Seen 
           subst (λ C. isRefusedStep e (respondBy stepped C b e .answer) ≡ false) p (parts .1) in
           rw (z, p) (step-kept M (told t e a) b h same closed seen e z accepted)
       go false z =
-          let same : shown M e ≡ e = ap (λ u. cond u (masked M e) e) z in
+          let same : shown M e ≡ e = ap (λ u. cond u (cleared M e) e) z in
           subst⁻¹ (λ x. Follows (Seen M) (respond b e) (respond h x)) same
           (call-kept M b h seen left right e (classOf (e .kind)) (neither _ (isNowhere a) (parts .0) .0) (later (e .kind) z))
 

@@ -11,3 +11,4 @@ pub mod Tells
 pub mod Events
 pub mod Isolation
 pub mod Tests
+pub mod Examples

@@ -6,3 +6,5 @@ pub mod Remainder
 pub mod Same
 pub mod Claim
 pub mod Tests
+pub mod Examples
+pub mod Wrong

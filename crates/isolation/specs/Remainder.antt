@@ -34,8 +34,8 @@ abbrev pub keepBits : ℕ → (ℕ → Bool) → ℕ → ℕ
 keepBits n keep v = word n (λ i. keep i && bit v i)
 
 -- a step with the outsiders' bits put to 0: V bits 3c, 3c + 1 and 3c + 2 are A, B and IX of channel c, W bit p is the external level of pin p
-unfoldable pub masked : Members → Event → Event
-masked M e =
+unfoldable pub cleared : Members → Event → Event
+cleared M e =
     record {
       kind = e .kind;
       member = e .member;
@@ -47,4 +47,4 @@ masked M e =
 
 -- an event as the remainder has it
 unfoldable pub shown : Members → Event → Event
-shown M e = cond (eqb (e .kind) 0) (masked M e) e
+shown M e = cond (eqb (e .kind) 0) (cleared M e) e

@@ -1,7 +1,7 @@
 -- Document 01, "Outsiders": what of the members is equal after the last events.
 -- Assumes nothing.
 use mathlib.Core.Path.{_≡_}
-use mathlib.Core.Bool.{true}
+use mathlib.Core.Bool.{Bool, true}
 use mathlib.Core.List.{List}
 use Prim.Native.Nat.{ℕ, _<_}
 use lib.ListN.{getD}
@@ -36,13 +36,16 @@ pub record SamePin (x y : Pin) : Type 0 where
   pub level : x .level ≡ y .level
   pub driven : x .driven ≡ y .driven
 
+-- the level of virtual output o, by the safemode that stands on the board
+abbrev pub levelOf : ℕ → Board → Bool
+levelOf o b = virtualLevel (b .core .safety .safemode) (virtualAt (b .virtuals) o)
+
 -- output o of two boards
 pub record SameVirtual (x y : Board) (o : ℕ) : Type 0 where
   pub own : virtualAt (x .virtuals) o .own ≡ virtualAt (y .virtuals) o .own
   pub safedata : virtualAt (x .virtuals) o .safedata ≡ virtualAt (y .virtuals) o .safedata
   pub safeenable : virtualAt (x .virtuals) o .safeenable ≡ virtualAt (y .virtuals) o .safeenable
-  -- by the safemode that stands on each board
-  pub level : virtualLevel (x .core .safety .safemode) (virtualAt (x .virtuals) o) ≡ virtualLevel (y .core .safety .safemode) (virtualAt (y .virtuals) o)
+  pub level : levelOf o x ≡ levelOf o y
 
 pub record SameMembers (M : Members) (x y : Board) : Type 0 where
   pub channels : (c : ℕ) → c < 6 → M .isChannel c ≡ true → SameChannel (channelIn (x .channels) c) (channelIn (y .channels) c)
