@@ -32,7 +32,7 @@ use Rattle.reach.proofs.RangedBoard.{respond-sound}
 use Rattle.isolation.specs.Members.{Members}
 use Rattle.isolation.specs.Settings.{Settings, told}
 use Rattle.isolation.specs.Closed.{Closed}
-use Rattle.isolation.specs.Remainder.{onOutsider, isNowhere, isRefusedStep, struck, cleared, shown}
+use Rattle.isolation.specs.Remainder.{onOutsider, isMisaddressed, isRefusedStep, struck, cleared, shown}
 use Rattle.isolation.proofs.Cases.{neither}
 use Rattle.isolation.proofs.TwoRuns.{Follows}
 use Rattle.isolation.proofs.Stores.{put-both, put-outside}
@@ -169,8 +169,8 @@ module _ (M : Members) (t : Settings) (b h : Board) (m : Told t b) (seen : Seen 
       a : Answer
       a = respond b e .answer
 
-      parts : ((onOutsider M (classOf (e .kind)) (e .member) || isNowhere a) ≡ false) × (isRefusedStep e a ≡ false)
-      parts = neither (onOutsider M (classOf (e .kind)) (e .member) || isNowhere a) (isRefusedStep e a) s
+      parts : ((onOutsider M (classOf (e .kind)) (e .member) || isMisaddressed a) ≡ false) × (isRefusedStep e a ≡ false)
+      parts = neither (onOutsider M (classOf (e .kind)) (e .member) || isMisaddressed a) (isRefusedStep e a) s
 
       go : (u : Bool) → eqb (e .kind) 0 ≡ u → Follows (Seen M) (respond b e) (respond h (shown M e))
       go true z =
@@ -182,7 +182,7 @@ module _ (M : Members) (t : Settings) (b h : Board) (m : Told t b) (seen : Seen 
       go false z =
           let same : shown M e ≡ e = ap (λ u. cond u (cleared M e) e) z in
           subst⁻¹ (λ x. Follows (Seen M) (respond b e) (respond h x)) same
-          (call-kept M b h seen left right e (classOf (e .kind)) (neither _ (isNowhere a) (parts .0) .0) (later (e .kind) z))
+          (call-kept M b h seen left right e (classOf (e .kind)) (neither _ (isMisaddressed a) (parts .0) .0) (later (e .kind) z))
 
 -- ---- an event that is struck out
 
@@ -191,8 +191,8 @@ record Unseen (M : Members) (h : Board) (r : Reply Board) : Type 0 where
   state : Seen M (r .state) h
 
 -- answered 1 or 2 is answered neither 0 nor 6
-nowhere : (n : ℕ) → (eqb n 1 || eqb n 2) ≡ true → (eqb n 0 ≡ false) × (eqb n 6 ≡ false)
-nowhere n h = go (eqb n 1) refl
+misaddressed : (n : ℕ) → (eqb n 1 || eqb n 2) ≡ true → (eqb n 0 ≡ false) × (eqb n 6 ≡ false)
+misaddressed n h = go (eqb n 1) refl
   where
     go : (u : Bool) → eqb n 1 ≡ u → (eqb n 0 ≡ false) × (eqb n 6 ≡ false)
     go true z = (other n 1 0 z refl, other n 1 6 z refl)
@@ -244,7 +244,7 @@ module _ (M : Members) (b h : Board) (seen : Seen M b h) (left : InRange b) (e :
 
   pub respond-gone : struck M e (respond b e .answer) ≡ true → Seen M (respond b e .state) h
   unfolding respond respondWith struck
-  respond-gone s = go (onOutsider M C (e .member)) refl (isNowhere a) refl
+  respond-gone s = go (onOutsider M C (e .member)) refl (isMisaddressed a) refl
     where
       C : Class
       C = classOf (e .kind)
@@ -252,10 +252,10 @@ module _ (M : Members) (b h : Board) (seen : Seen M b h) (left : InRange b) (e :
       a : Answer
       a = respond b e .answer
 
-      go : (u : Bool) → onOutsider M C (e .member) ≡ u → (w : Bool) → isNowhere a ≡ w → Seen M (respond b e .state) h
+      go : (u : Bool) → onOutsider M C (e .member) ≡ u → (w : Bool) → isMisaddressed a ≡ w → Seen M (respond b e .state) h
       go true o w n = call-gone C o .state
       go false o true n =
-          let r = nowhere (a .result) n in
+          let r = misaddressed (a .result) n in
           subst⁻¹ (λ x. Seen M x h) (respond-sound b left e .refused (r .0) (r .1)) seen
       go false o false n =
           let last : isRefusedStep e a ≡ true = rw (o, n) at s in

@@ -89,9 +89,11 @@ module _ (M : Members) where
       samples-same =
           let x : ℕ = XS (me .mode) in
           let index : indexOf x (bit (s .lines) (3 * c + 2)) (s .outs) (s .ticks) ≡ indexOf x (bit (z .lines) (3 * c + 2)) (z .outs) (z .ticks) =
-          index-same x (line-same c (3 * c + 2) k m (omega arith)) (rw p (closed .indexing c k m)) in
+          index-same x (line-same c (3 * c + 2) k m (omega arith)) (λ l u. rw p (closed .indexing c k m (rw (sym p) l) (rw (sym p) u))) in
           let extin : routed (s .levels) (s .virtuals) (me .route) ≡ routed (z .levels) (z .virtuals) (me .route) =
-          routed-same (me .route) (rw q (closed .routedPin c k m)) (rw q (closed .routedVirtual c k m)) in
+          routed-same (me .route)
+          (λ u. rw q (closed .routedPin c k m (omega arith)))
+          (λ l u. rw q (closed .routedVirtual c k m (omega arith) (omega arith))) in
           λ i. samples (line-same c (3 * c) k m (omega arith) i) (line-same c (3 * c + 1) k m (omega arith) i) (index i)
           (not (Bool·beq (extin i) (IP (me .mode))))
 

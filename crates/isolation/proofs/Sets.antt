@@ -34,38 +34,38 @@ setBy u a v old = cond (u && eqb (a .result) 0) v old
 -- ---- channels
 
 -- d has the settings of c
-pub record Alike (c d : Channel) : Type 0 where
+pub record SameSettings (c d : Channel) : Type 0 where
   pub mode : d .mode ≡ c .mode
   pub route : d .route ≡ c .route
 
 module _ (c : Channel) where
-  captured-alike : (n t r : ℕ) (d : Channel) → Alike c d → Alike c (captured n t r d)
+  captured-same : (n t r : ℕ) (d : Channel) → SameSettings c d → SameSettings c (captured n t r d)
   unfolding captured
-  captured-alike n t r d a = either (Alike c) (ltb (d .held) 16) (record { mode = a .mode; route = a .route }) (record { mode = a .mode; route = a .route })
+  captured-same n t r d a = either (SameSettings c) (ltb (d .held) 16) (record { mode = a .mode; route = a .route }) (record { mode = a .mode; route = a .route })
 
-  preloaded-alike : (d : Channel) → Alike c d → Alike c (preloaded d)
+  preloaded-same : (d : Channel) → SameSettings c d → SameSettings c (preloaded d)
   unfolding preloaded
-  preloaded-alike d a = record { mode = a .mode; route = a .route }
+  preloaded-same d a = record { mode = a .mode; route = a .route }
 
-  started-alike : Alike c (started c)
+  started-same : SameSettings c (started c)
   unfolding started
-  started-alike =
-      let same : Alike c c = record { mode = refl; route = refl } in
-      either (Alike c) (c .running) same
-      (either (Alike c) (TP (c .mode) 24) (preloaded-alike _ (record { mode = refl; route = refl })) (record { mode = refl; route = refl }))
+  started-same =
+      let same : SameSettings c c = record { mode = refl; route = refl } in
+      either (SameSettings c) (c .running) same
+      (either (SameSettings c) (TP (c .mode) 24) (preloaded-same _ (record { mode = refl; route = refl })) (record { mode = refl; route = refl }))
 
-  popped-alike : Alike c (popped c)
+  popped-same : SameSettings c (popped c)
   unfolding popped
-  popped-alike = record { mode = refl; route = refl }
+  popped-same = record { mode = refl; route = refl }
 
-  settled-alike : (now timestamp : ℕ) (n : Next) → Alike c (settled now timestamp n c)
+  settled-same : (now timestamp : ℕ) (n : Next) → SameSettings c (settled now timestamp n c)
   unfolding settled
-  settled-alike now timestamp n =
-      either (Alike c) (eqb (n .caught) 0) (record { mode = refl; route = refl }) (captured-alike _ _ _ _ (record { mode = refl; route = refl }))
+  settled-same now timestamp n =
+      either (SameSettings c) (eqb (n .caught) 0) (record { mode = refl; route = refl }) (captured-same _ _ _ _ (record { mode = refl; route = refl }))
 
-  pub advance-alike : (i : Inputs) → Alike c (advance i c)
+  pub advance-same : (i : Inputs) → SameSettings c (advance i c)
   unfolding advance
-  advance-alike i = settled-alike (i .now) (i .timestamp) (nextOf i c)
+  advance-same i = settled-same (i .now) (i .timestamp) (nextOf i c)
 
   -- u: it is call 1, w: it is call 4
   pub record SetChannel (u w : Bool) (v : ℕ) (r : Reply Channel) : Type 0 where
@@ -73,7 +73,7 @@ module _ (c : Channel) where
     pub route : r .state .route ≡ setBy w (r .answer) v (c .route)
 
   -- a reply that keeps the settings, by a call that sets none
-  keeping : {u w : Bool} {v : ℕ} {d : Channel} {a : Answer} → u ≡ false → w ≡ false → Alike c d → SetChannel u w v (reply d a)
+  keeping : {u w : Bool} {v : ℕ} {d : Channel} {a : Answer} → u ≡ false → w ≡ false → SameSettings c d → SetChannel u w v (reply d a)
   keeping h j s = record { mode = rw h (s .mode); route = rw j (s .route) }
 
   -- a refusal by the channel
@@ -100,23 +100,23 @@ module _ (c : Channel) where
   read-set {u} {w} v h j =
       let S = SetChannel u w v in
       either S (ltb 0 (c .lost)) (keeping h j (record { mode = refl; route = refl }))
-      (either S (eqb (c .held) 0) (refusing u w v 5 refl) (keeping h j popped-alike))
+      (either S (eqb (c .held) 0) (refusing u w v 5 refl) (keeping h j popped-same))
 
   pub channel-set : (t : ℕ) (e : Event) → SetChannel (eqb (e .kind) 1) (eqb (e .kind) 4) (e .v) (channelCall t e c)
   unfolding channelCall
   channel-set t e =
       let k = e .kind in
       let S = SetChannel (eqb k 1) (eqb k 4) (e .v) in
-      let same : Alike c c = record { mode = refl; route = refl } in
+      let same : SameSettings c c = record { mode = refl; route = refl } in
       tested S (eqb k 1) (λ h. rw (h, other k 1 4 h refl) (mode-set (e .v))) (λ h1.
       tested S (eqb k 2) (λ h. keeping h1 (other k 2 4 h refl) (record { mode = refl; route = refl })) (λ _.
       tested S (eqb k 3) (λ h. keeping h1 (other k 3 4 h refl) (record { mode = refl; route = refl })) (λ _.
       tested S (eqb k 4) (λ h. rw (h1, h) (route-set (e .v))) (λ h4.
       either S (eqb k 5) (keeping h1 h4 (record { mode = refl; route = refl }))
-      (either S (eqb k 6) (keeping h1 h4 started-alike)
+      (either S (eqb k 6) (keeping h1 h4 started-same)
       (either S (eqb k 7) (keeping h1 h4 (record { mode = refl; route = refl }))
-      (either S (eqb k 8) (keeping h1 h4 (captured-alike _ _ _ _ same))
-      (either S (eqb k 9) (keeping h1 h4 (preloaded-alike _ same))
+      (either S (eqb k 8) (keeping h1 h4 (captured-same _ _ _ _ same))
+      (either S (eqb k 9) (keeping h1 h4 (preloaded-same _ same))
       (either S (eqb k 10) (keeping h1 h4 same)
       (either S (eqb k 11) (read-set (e .v) h1 h4)
       (keeping h1 h4 same)))))))))))

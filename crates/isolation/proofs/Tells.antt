@@ -33,7 +33,7 @@ use Rattle.reach.proofs.RangedPins.{pin-sound, pin-ranged}
 use Rattle.isolation.specs.Settings.{Settings, untold, latest, told}
 use Rattle.isolation.proofs.Placed.{channels-placed, source-held, pins-placed}
 use Rattle.isolation.proofs.Told.{Told}
-use Rattle.isolation.proofs.Sets.{setBy, advance-alike, SetChannel, channel-set, SetPin, pin-set, core-set}
+use Rattle.isolation.proofs.Sets.{setBy, advance-same, SetChannel, channel-set, SetPin, pin-set, core-set}
 use Rattle.isolation.proofs.Latest.{of-another-kind, not-accepted, on-it, put-told}
 
 -- ---- before the first event
@@ -94,8 +94,8 @@ module _ (e : Event) (a : Answer) where
 stepped-keeps : (v w : ℕ) (b : Board) → Kept b (stepped v w b)
 unfolding stepped stepWith allNext channelNext coreNext guarded driven sensedWith pinAt
 stepped-keeps v w b = record {
-  mode = λ c h. ap (λ (x : Channel). x .mode) (getD-tab 6 _ c noChannel h) ∙ advance-alike (channelIn (b .channels) c) _ .mode;
-  route = λ c h. ap (λ (x : Channel). x .route) (getD-tab 6 _ c noChannel h) ∙ advance-alike (channelIn (b .channels) c) _ .route;
+  mode = λ c h. ap (λ (x : Channel). x .mode) (getD-tab 6 _ c noChannel h) ∙ advance-same (channelIn (b .channels) c) _ .mode;
+  route = λ c h. ap (λ (x : Channel). x .route) (getD-tab 6 _ c noChannel h) ∙ advance-same (channelIn (b .channels) c) _ .route;
   source = λ p h. refl;
   control = refl;
 }

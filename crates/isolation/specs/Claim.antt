@@ -32,7 +32,7 @@ module _ (machine : Board → Event → Reply Board) (M : Members) where
   abbrev pub answersOf : List Event → List Answer
   answersOf es = keptAnswers machine (struck M) resetBoard es
 
-  pub record Indistinct (es fs : List Event) : Type 0 where
+  pub record SameToMembers (es fs : List Event) : Type 0 where
     pub answers : answersOf es ≡ answersOf fs
     pub members : SameMembers M (finish machine resetBoard es) (finish machine resetBoard fs)
 
@@ -47,7 +47,7 @@ Isolation machine =
     → ClosedThroughout machine M es
     → ClosedThroughout machine M fs
     → Alike machine M es fs
-    → Indistinct machine M es fs
+    → SameToMembers machine M es fs
 
 -- of the machine that `apply` promises to be
 abbrev pub Demand3 : Type 0

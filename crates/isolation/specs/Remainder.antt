@@ -18,16 +18,16 @@ onOutsider M virtual i = not (M .isVirtual i)
 onOutsider M board i = false
 onOutsider M unknown i = false
 
--- answered 1 or 2
-abbrev pub isNowhere : Answer → Bool
-isNowhere a = eqb (a .result) 1 || eqb (a .result) 2
+-- answered 1 or 2: no such member, no such kind
+abbrev pub isMisaddressed : Answer → Bool
+isMisaddressed a = eqb (a .result) 1 || eqb (a .result) 2
 
 abbrev pub isRefusedStep : Event → Answer → Bool
 isRefusedStep e a = eqb (e .kind) 0 && not (eqb (a .result) 0)
 
 -- the event is no part of the remainder
 unfoldable pub struck : Members → Event → Answer → Bool
-struck M e a = onOutsider M (classOf (e .kind)) (e .member) || isNowhere a || isRefusedStep e a
+struck M e a = onOutsider M (classOf (e .kind)) (e .member) || isMisaddressed a || isRefusedStep e a
 
 -- the low n bits of a word, those that are not kept put to 0
 abbrev pub keepBits : ℕ → (ℕ → Bool) → ℕ → ℕ
