@@ -1,4 +1,4 @@
--- What holds of a board after a list of events that told the settings t: they are the board's, and every field is in its range.
+-- The settings that the events up to a board told are the board's.
 -- Assumes nothing.
 use mathlib.Core.Path.{_≡_}
 use Prim.Native.Nat.{ℕ, _<_}

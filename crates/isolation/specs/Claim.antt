@@ -41,6 +41,7 @@ module _ (machine : Board → Event → Reply Board) (M : Members) where
     pub answers : answersOf es ≡ allAnswers machine resetBoard (remainderOf es)
     pub members : SameMembers M (finish machine resetBoard es) (finish machine resetBoard (remainderOf es))
 
+-- two lists: if members are closed after every event of both, and the lists are alike, nothing that a member sees tells them apart
 abbrev pub Isolation : (Board → Event → Reply Board) → Type 0
 Isolation machine =
     (M : Members) (es fs : List Event)

@@ -33,12 +33,12 @@ unfoldable pub group : Members
 group = members (0 ∷ 1 ∷ []) (7 ∷ 47 ∷ []) (2 ∷ [])
 
 -- The settings use every clause. Channel 0 counts steps while virtual output 2 is high, from 4294967295 on; channel 1 counts its carries and captures
--- the edges of its ExtOut; pin 7 shows ExtOut of channel 1; a high pin 47 sets safemode.
+-- the edges of its ExtOut; pin 7 shows ExtOut of channel 1 and is its ExtIn; a high pin 47 sets safemode.
 unfoldable pub setup : List Event
 setup =
     call 22 0 3 ∷ call 18 2 1
     ∷ call 4 0 50 ∷ call 1 0 0x020C0030 ∷ call 2 0 4294967295 ∷ call 9 0 0 ∷ call 6 0 0
-    ∷ call 1 1 0x000C0042 ∷ call 5 1 24 ∷ call 6 1 0
+    ∷ call 4 1 7 ∷ call 1 1 0x000C0042 ∷ call 5 1 24 ∷ call 6 1 0
     ∷ call 13 7 2 ∷ []
 
 -- the outsiders' part: the queue of channel 2 overflows and tells it, channel 3 cascades from it, pin 5 is driven by it, virtual output 0 is high; and
@@ -48,7 +48,7 @@ neighbours =
     replicate 17 (call 8 2 0)
     ++ (call 11 2 0 ∷ call 1 2 0x00020030 ∷ call 6 2 0 ∷ call 1 3 0x40 ∷ call 6 3 0 ∷ call 13 5 3 ∷ call 18 0 1 ∷ call 99 0 0 ∷ call 10 6 0 ∷ call 0 1 0 ∷ [])
 
--- three steps and readings; pin 47 goes up; a step more and readings. V and W are the outsiders' part of each step: lines of channel 2, pins 5 and 9
+-- three steps and readings; a step with pin 47 up and readings; two steps more and readings. V and W are the outsiders' part of each step: lines of channel 2, pins 5 and 9
 unfoldable pub trial : ℕ → ℕ → List Event
 trial v w =
     lines v w ∷ lines 0 0 ∷ lines v w
@@ -68,7 +68,7 @@ sole = setup ++ trial 0 0
 -- what the events of the remainder are answered in both
 unfoldable pub given : List Answer
 given =
-    replicate 14 (number 0 0)
+    replicate 15 (number 0 0)
     ++ (record { result = 0; value = 1; timestamp = 0; reason = 16 }
     ∷ number 0 1 ∷ number 0 2
     ∷ number 0 0

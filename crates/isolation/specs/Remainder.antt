@@ -22,6 +22,7 @@ onOutsider M unknown i = false
 abbrev pub isMisaddressed : Answer → Bool
 isMisaddressed a = eqb (a .result) 1 || eqb (a .result) 2
 
+-- a step that was not accepted
 abbrev pub isRefusedStep : Event → Answer → Bool
 isRefusedStep e a = eqb (e .kind) 0 && not (eqb (a .result) 0)
 
