@@ -14,6 +14,7 @@ use Rattle.control.specs.Safety.{pinTriggers}
 use Rattle.calls.specs.Reply.{Reply}
 use Rattle.calls.specs.declared.Answer.{Answer}
 use Rattle.board.specs.Handed.{resetBoard}
+use Rattle.reach.proofs.Cases.{asked}
 use Rattle.isolation.specs.Lists.{AfterEach}
 use Rattle.isolation.specs.Members.{Members}
 use Rattle.isolation.specs.Settings.{Settings, untold, told}
@@ -36,12 +37,6 @@ implying : (s t : Bool) → (s ≡ true → t ≡ true) → implies s t ≡ true
 implying true t h = h refl
 implying false t h = refl
 
--- what is implied, where the test before it holds
-implied : (s t : Bool) → implies s t ≡ true → s ≡ true → t ≡ true
-implied true t h k = h
-implied false true h k = refl
-implied false false h k = k
-
 -- one of all
 each : (ts : List Bool) → all ts ≡ true → (k : ℕ) → getD ts k true ≡ true
 unfolding all
@@ -55,19 +50,19 @@ unfolding clauses
 closed-by-tests M s h =
     let of : (k : ℕ) → getD (clauses M s) k true ≡ true = each (clauses M s) h in
     record {
-      carrying = λ c k m e. implied (M .isChannel c && eqb (K (s .mode c)) 4) _ (at 6 (carryingAt M s) (of 0) c k) (rw m (eq-eqb _ 4 e));
+      carrying = λ c k m e. asked (M .isChannel c && eqb (K (s .mode c)) 4) _ (at 6 (carryingAt M s) (of 0) c k) (rw m (eq-eqb _ 4 e));
       indexing = λ c k m l u.
           let x : ℕ = XS (s .mode c) in
-          implied (M .isChannel c && ltb 1 x && ltb x 8) _ (at 6 (indexingAt M s) (of 1) c k) (rw (m, lt-ltb 1 x l, lt-ltb x 8 (omega arith)) refl);
+          asked (M .isChannel c && ltb 1 x && ltb x 8) _ (at 6 (indexingAt M s) (of 1) c k) (rw (m, lt-ltb 1 x l, lt-ltb x 8 (omega arith)) refl);
       routedPin = λ c k m u.
-          implied (M .isChannel c && ltb (s .route c) 48) _ (at 6 (routedPinAt M s) (of 2) c k) (rw m (lt-ltb (s .route c) 48 (omega arith)));
+          asked (M .isChannel c && ltb (s .route c) 48) _ (at 6 (routedPinAt M s) (of 2) c k) (rw m (lt-ltb (s .route c) 48 (omega arith)));
       routedVirtual = λ c k m l u.
           let r : ℕ = s .route c in
-          implied (M .isChannel c && ltb 47 r && ltb r 54) _ (at 6 (routedVirtualAt M s) (of 3) c k) (rw (m, lt-ltb 47 r l, lt-ltb r 54 (omega arith)) refl);
+          asked (M .isChannel c && ltb 47 r && ltb r 54) _ (at 6 (routedVirtualAt M s) (of 3) c k) (rw (m, lt-ltb 47 r l, lt-ltb r 54 (omega arith)) refl);
       driving = λ p k m l u.
           let n : ℕ = s .source p in
-          implied (M .isPin p && ltb 0 n && ltb n 7) _ (at 48 (drivingAt M s) (of 4) p k) (rw (m, lt-ltb 0 n l, lt-ltb n 7 (omega arith)) refl);
-      triggering = implied (pinTriggers (s .control)) (M .isPin 47) (of 5);
+          asked (M .isPin p && ltb 0 n && ltb n 7) _ (at 48 (drivingAt M s) (of 4) p k) (rw (m, lt-ltb 0 n l, lt-ltb n 7 (omega arith)) refl);
+      triggering = asked (pinTriggers (s .control)) (M .isPin 47) (of 5);
     }
 
 tests-of-closed : (M : Members) (s : Settings) → Closed M s → all (clauses M s) ≡ true
