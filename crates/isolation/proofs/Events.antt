@@ -1,8 +1,8 @@
 -- One event on two boards that look alike to the members: one that stays in the remainder is answered alike and leaves them alike; one that is
 -- struck out leaves the first board as it looked.
 -- Assumes nothing.
-use mathlib.Core.Path.{_≡_, refl, ap, ap₂, sym, _∙_, subst, subst⁻¹}
-use mathlib.Core.Bool.{Bool, true, false, cond, not, _&&_, _||_, and-eq-true-iff, true≢false, false≢true}
+use mathlib.Core.Path.{_≡_, refl, ap, sym, _∙_, subst, subst⁻¹}
+use mathlib.Core.Bool.{Bool, true, false, cond, not, _||_, and-eq-true-iff, true≢false, false≢true}
 use Prim.Native.Nat.{ℕ, _<_, _/_, _^_}
 use lib.Dec.{eqb, ltb}
 use borrow.Author.Tests.{ltb-true, lt-ltb, eqb-true, not-true, not-false}
@@ -28,25 +28,21 @@ use Rattle.board.specs.Step.{stepped}
 use Rattle.board.specs.Respond.{Class, step, channel, pin, virtual, board, unknown, classOf, checked, respondBy, respondWith, respond}
 use Rattle.board.specs.declared.Board.{Board}
 use Rattle.reach.specs.Range.{InRange}
-use Rattle.reach.proofs.RangedBoard.{respond-sound}
+use Rattle.reach.proofs.Fitting.{fits-by, fitting}
+use Rattle.reach.proofs.RangedBoard.{past-checks, respond-sound}
 use Rattle.isolation.specs.Members.{Members}
 use Rattle.isolation.specs.Settings.{Settings, told}
 use Rattle.isolation.specs.Closed.{Closed}
 use Rattle.isolation.specs.Remainder.{onOutsider, isMisaddressed, isRefusedStep, struck, cleared, shown}
-use Rattle.isolation.proofs.Cases.{neither}
+use Rattle.isolation.proofs.Cases.{paired, neither}
 use Rattle.isolation.proofs.TwoRuns.{Follows}
 use Rattle.isolation.proofs.Stores.{put-both, put-outside}
 use Rattle.isolation.proofs.Placed.{channels-placed, pins-placed, virtuals-placed}
 use Rattle.isolation.proofs.Seen.{Seen}
-use Rattle.isolation.proofs.Told.{Told}
+use Rattle.isolation.proofs.Told.{Told, settings-told}
 use Rattle.isolation.proofs.Local.{kept-agree, step-same}
-use Rattle.isolation.proofs.Tells.{code, step-quiet, unmoved}
+use Rattle.isolation.proofs.Tells.{code, step-quiet}
 use Rattle.isolation.proofs.Sets.{other}
-
--- two replies by one test
-follows-either : {S : Type 0} {R : S → S → Type 0} (t : Bool) {r q u v : Reply S} → (t ≡ true → Follows R r u) → (t ≡ false → Follows R q v) → Follows R (cond t r q) (cond t u v)
-follows-either true h k = h refl
-follows-either false h k = k refl
 
 module _ (M : Members) (b h : Board) (seen : Seen M b h) (left : InRange b) (right : InRange h) (e : Event) where
   refused-alike : (n : ℕ) → Follows (Seen M) (refuse n b) (refuse n h)
@@ -56,8 +52,8 @@ module _ (M : Members) (b h : Board) (seen : Seen M b h) (left : InRange b) (rig
 
   within : (n : ℕ) (r q : Reply Board) → (e .member < n → Follows (Seen M) r q) → Follows (Seen M) (checked n e b r) (checked n e h q)
   within n r q s =
-      follows-either (ltb (e .member) n)
-      (λ k. follows-either (fits e) (λ _. s (ltb-true _ _ k)) (λ _. refused-alike 3))
+      paired (Follows (Seen M)) (ltb (e .member) n)
+      (λ k. paired (Follows (Seen M)) (fits e) (λ _. s (ltb-true _ _ k)) (λ _. refused-alike 3))
       (λ _. refused-alike 1)
 
   call-kept : (C : Class) → onOutsider M C (e .member) ≡ false → (C ≡ step → ⊥) → Follows (Seen M) (respondBy stepped C b e) (respondBy stepped C h e)
@@ -113,28 +109,20 @@ module _ (M : Members) (b h : Board) (seen : Seen M b h) (left : InRange b) (rig
 
 -- ---- a step that stays in the remainder
 
-ends : (s w v x y z : Bool) → (s && w && v && x && y && z) ≡ true → (s ≡ true) × (z ≡ true)
-ends s w v x y z h =
-    let five = and-eq-true-iff (s && w && v && x && y) z .0 h in
-    let four = and-eq-true-iff (s && w && v && x) y .0 (five .0) in
-    let three = and-eq-true-iff (s && w && v) x .0 (four .0) in
-    let two = and-eq-true-iff (s && w) v .0 (three .0) in
-    (and-eq-true-iff s w .0 (two .0) .0, five .1)
-
 -- a step whose fields fit is one too with the outsiders' bits put to 0
 cleared-fits : (M : Members) (e : Event) → eqb (e .kind) 0 ≡ true → fits e ≡ true → fits (cleared M e) ≡ true
-unfolding fits cleared limit limits
+unfolding cleared limit limits
 cleared-fits M e z f =
-    let k = e .kind in
-    let first : Bool = eqb (e .spare) 0 && ltb (e .selector) (cond (eqb k 2 || eqb k 3) 2 1) in
-    let last : Bool = not (eqb k 0) || eqb (e .member) 0 in
-    let both : (first ≡ true) × (last ≡ true) =
-    ends first (ltb (e .w) (cond (eqb k 0) (2 ^ 48) 1)) (ltb (e .v) (limit k)) (not (eqb k 1) || goodMode (e .v)) (not (eqb k 25) || not (eqb (e .v) 0)) last f in
-    let w : ltb (cleared M e .w) (cond (eqb k 0) (2 ^ 48) 1) ≡ true = rw z (lt-ltb _ (2 ^ 48) (word-lt 48 _)) in
-    let v : ltb (cleared M e .v) (limit k) ≡ true = ap (λ n. ltb (cleared M e .v) (limit n)) (eqb-true k 0 z) ∙ lt-ltb _ (2 ^ 18) (word-lt 18 _) in
-    let mode : (not (eqb k 1) || goodMode (cleared M e .v)) ≡ true = ap (λ n. not (eqb n 1) || goodMode (cleared M e .v)) (eqb-true k 0 z) in
-    let interval : (not (eqb k 25) || not (eqb (cleared M e .v) 0)) ≡ true = ap (λ n. not (eqb n 25) || not (eqb (cleared M e .v) 0)) (eqb-true k 0 z) in
-    ap₂ _&&_ (ap₂ _&&_ (ap₂ _&&_ (ap₂ _&&_ (ap₂ _&&_ (both .0) w) v) mode) interval) (both .1)
+    let k : e .kind ≡ 0 = eqb-true (e .kind) 0 z in
+    fits-by (cleared M e) (record {
+      spare = fitting e f .spare;
+      selector = fitting e f .selector;
+      w = rw z (lt-ltb _ (2 ^ 48) (word-lt 48 _));
+      v = ap (λ n. ltb (cleared M e .v) (limit n)) k ∙ lt-ltb _ (2 ^ 18) (word-lt 18 _);
+      mode = ap (λ n. not (eqb n 1) || goodMode (cleared M e .v)) k;
+      interval = ap (λ n. not (eqb n 25) || not (eqb (cleared M e .v) 0)) k;
+      member = fitting e f .member;
+    })
 
 module _ (M : Members) (t : Settings) (b h : Board) (told : Told t b) (closed : Closed M t) (seen : Seen M b h) (e : Event) where
   step-kept : eqb (e .kind) 0 ≡ true → isRefusedStep e (respondBy stepped step b e .answer) ≡ false
@@ -175,7 +163,7 @@ module _ (M : Members) (t : Settings) (b h : Board) (m : Told t b) (seen : Seen 
       go : (u : Bool) → eqb (e .kind) 0 ≡ u → Follows (Seen M) (respond b e) (respond h (shown M e))
       go true z =
           let p : classOf (e .kind) ≡ step = ap classOf (eqb-true (e .kind) 0 z) in
-          let same : Told (told t e a) b = step-quiet e a t b b p m (unmoved b) in
+          let same : Told (told t e a) b = step-quiet e a t b b p m (settings-told b) in
           let accepted : isRefusedStep e (respondBy stepped step b e .answer) ≡ false =
           subst (λ C. isRefusedStep e (respondBy stepped C b e .answer) ≡ false) p (parts .1) in
           rw (z, p) (step-kept M (told t e a) b h same closed seen e z accepted)
@@ -200,7 +188,7 @@ misaddressed n h = go (eqb n 1) refl
 
 module _ (M : Members) (b h : Board) (seen : Seen M b h) (left : InRange b) (e : Event) where
   passed : (n : ℕ) (r : Reply Board) → Unseen M h r → Unseen M h (checked n e b r)
-  passed n r s = either (Unseen M h) (ltb (e .member) n) (either (Unseen M h) (fits e) s (record { state = seen })) (record { state = seen })
+  passed n r s = past-checks (Unseen M h) n e b r (record { state = seen }) (record { state = seen }) (λ _ _. s)
 
   -- a call on an outsider
   call-gone : (C : Class) → onOutsider M C (e .member) ≡ true → Unseen M h (respondBy stepped C b e)

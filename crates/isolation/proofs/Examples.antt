@@ -1,11 +1,12 @@
 -- The written lists, computed on the definition of the machine.
 -- Assumes nothing.
-use mathlib.Core.Path.{refl, ap}
-use mathlib.Core.Bool.{Bool, true≢false}
+use mathlib.Core.Path.{_≡_, refl, sym, ap, _∙_}
+use mathlib.Core.Bool.{true≢false}
 use mathlib.Core.List.{List, [], _∷_}
 use lib.Dec.{eqb}
 use lib.ListN.{getD}
-use Rattle.calls.specs.Reply.{number}
+use Rattle.calls.specs.Reply.{Reply, number}
+use Rattle.calls.specs.declared.Event.{Event}
 use Rattle.calls.specs.declared.Answer.{Answer}
 use Rattle.words.specs.Bits.{bit, word}
 use Rattle.words.specs.Table.{tab}
@@ -30,17 +31,20 @@ use Rattle.board.specs.Inputs.{extouts, indexOf, samplesOf, inputsOf, channelNe
 use Rattle.board.specs.Respond.{respondBy, respondWith, respond}
 use Rattle.board.specs.Runs.{finish}
 use Rattle.board.specs.Step.{sceneOf, coreNext, stepWith, stepped}
+use Rattle.board.specs.declared.Board.{Board}
 use Rattle.isolation.specs.Lists.{remainder, keptAnswers}
+use Rattle.isolation.specs.Members.{Members}
 use Rattle.isolation.specs.Settings.{untold, latest, told}
 use Rattle.isolation.specs.Remainder.{onOutsider, struck, cleared, shown}
-use Rattle.isolation.specs.Tests.{every, clauses, all, without, afterEach}
-use Rattle.isolation.specs.Examples.{among, group, setup, neighbours, trial, shared, sole, given, members, Examples}
-use Rattle.isolation.specs.Wrong.{quorum, spilling, overflowing, still, read, unread, RuledOut}
+use Rattle.isolation.specs.Claim.{Isolation}
+use Rattle.isolation.specs.Tests.{clauses, all, without, afterEach}
+use Rattle.isolation.specs.Examples.{among, group, setup, neighbours, trial, shared, sole, given, members}
+use Rattle.isolation.specs.Apart.{Computed, ending, Refuting, quorum, spilling, overflowing, still, counted, uncounted, RuledOut}
 use Rattle.isolation.proofs.Tests.{decided}
 
-pub examples : Examples
-unfolding bit word tab difference masked caughtOf finished live resting nextOf settled advance clocked preloaded started captured popped resetChannel pinAt putPin pinLevel sensedWith driven resetPins virtualAt putVirtual virtualLevels resetVirtuals routed advanced ticks guarded watched kicked switched resetCore intervalWrite boardCall modeWrite registerWrite routeWrite snapshotRead channelCall limits limit fits pinCall virtualCall resetBoard extouts indexOf samplesOf inputsOf channelNext allNext respondBy respondWith respond finish sceneOf coreNext stepWith stepped inReasons repaired repairedPins repairedVirtuals repairedClock repairedSafety repairedWatchdog repairedCore repairedBoard lostCleared kept applied remainder keptAnswers untold latest told onOutsider struck cleared shown every clauses all without afterEach among group setup neighbours trial shared sole given
-examples = record {
+pub computed : Computed
+unfolding bit word tab difference masked caughtOf finished live resting nextOf settled advance clocked preloaded started captured popped resetChannel pinAt putPin pinLevel sensedWith driven resetPins virtualAt putVirtual virtualLevels resetVirtuals routed advanced ticks guarded watched kicked switched resetCore intervalWrite boardCall modeWrite registerWrite routeWrite snapshotRead channelCall limits limit fits pinCall virtualCall resetBoard extouts indexOf samplesOf inputsOf channelNext allNext respondBy respondWith respond finish sceneOf coreNext stepWith stepped inReasons repaired repairedPins repairedVirtuals repairedClock repairedSafety repairedWatchdog repairedCore repairedBoard lostCleared kept applied remainder keptAnswers untold latest told onOutsider struck cleared shown clauses all without afterEach among group setup neighbours trial shared sole given quorum spilling
+computed = record {
   alike = record {
     longer = refl;
     closed = (decided applied group shared .0 refl, decided applied group sole .0 refl);
@@ -48,12 +52,16 @@ examples = record {
     answers = (refl, refl);
   };
   needed = record {
-    carrying = record { others = (refl, refl); alike = refl; answers = (refl, refl) };
-    indexing = record { others = (refl, refl); alike = refl; answers = (refl, refl) };
-    routedPin = record { others = (refl, refl); alike = refl; answers = (refl, refl) };
-    routedVirtual = record { others = (refl, refl); alike = refl; answers = (refl, refl) };
-    driving = record { others = (refl, refl); alike = refl; answers = (refl, refl) };
-    triggering = record { others = (refl, refl); alike = refl; answers = (refl, refl) };
+    carrying = record { others = (refl, refl); apart = record { alike = refl; answers = (refl, refl) } };
+    indexing = record { others = (refl, refl); apart = record { alike = refl; answers = (refl, refl) } };
+    routedPin = record { others = (refl, refl); apart = record { alike = refl; answers = (refl, refl) } };
+    routedVirtual = record { others = (refl, refl); apart = record { alike = refl; answers = (refl, refl) } };
+    driving = record { others = (refl, refl); apart = record { alike = refl; answers = (refl, refl) } };
+    triggering = record { others = (refl, refl); apart = record { alike = refl; answers = (refl, refl) } };
+  };
+  refuted = record {
+    quorums = record { closed = (refl, refl); apart = record { alike = refl; answers = (refl, refl) } };
+    spills = record { closed = (refl, refl); apart = record { alike = refl; answers = (refl, refl) } };
   };
   wording = record {
     boardCalls = (refl, refl);
@@ -66,19 +74,19 @@ examples = record {
   };
 }
 
--- the value of the answer in place 3 is 0
-abbrev fourth : List Answer → Bool
-fourth xs = eqb (getD xs 3 (number 1 1) .value) 0
+-- a machine on which such lists are answered differently does not satisfy the claim
+refute : (machine : Board → Event → Reply Board) (M : Members) (es fs : List Event) {xs ys : List Answer} → Refuting machine M es fs xs ys
+    → (xs ≡ ys → ⊥) → Isolation machine → ⊥
+refute machine M es fs r differ claim =
+    let same = claim M es fs (decided machine M es .0 (r .closed .0)) (decided machine M fs .0 (r .closed .1)) (r .apart .alike) in
+    differ (sym (r .apart .answers .0) ∙ same .answers ∙ r .apart .answers .1)
+
+-- the fourth answers' values are 0 and 1
+differing : ending 3 0 ≡ ending 3 1 → ⊥
+differing p = true≢false (ap (λ xs. eqb (getD xs 3 (number 0 0) .value) 0) p)
 
 pub ruled-out : RuledOut
-unfolding bit word tab difference masked caughtOf finished live resting nextOf settled advance clocked preloaded started captured popped resetChannel pinAt putPin pinLevel sensedWith driven resetPins virtualAt putVirtual virtualLevels resetVirtuals routed advanced ticks guarded watched kicked switched resetCore intervalWrite boardCall modeWrite registerWrite routeWrite snapshotRead channelCall limits limit fits pinCall virtualCall resetBoard extouts indexOf samplesOf inputsOf channelNext allNext respondBy respondWith respond finish sceneOf coreNext stepWith stepped inReasons repaired repairedPins repairedVirtuals repairedClock repairedSafety repairedWatchdog repairedCore repairedBoard lostCleared kept applied remainder keptAnswers untold latest told onOutsider struck cleared shown every clauses all without afterEach among quorum spilling
 ruled-out = record {
-  quorums = λ claim.
-      let M = members (0 ∷ []) [] [] in
-      let same = claim M overflowing still (decided quorum M overflowing .0 refl) (decided quorum M still .0 refl) refl in
-      true≢false (ap fourth (same .answers));
-  spills = λ claim.
-      let M = members (1 ∷ []) [] [] in
-      let same = claim M read unread (decided spilling M read .0 refl) (decided spilling M unread .0 refl) refl in
-      true≢false (ap fourth (same .answers));
+  quorums = refute quorum (members (0 ∷ []) [] []) overflowing still (computed .refuted .quorums) differing;
+  spills = refute spilling (members (1 ∷ []) [] []) counted uncounted (computed .refuted .spills) differing;
 }

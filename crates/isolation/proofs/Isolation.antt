@@ -2,7 +2,6 @@
 -- Assumes nothing.
 use mathlib.Core.Path.{_≡_, ap, subst, subst⁻¹}
 use mathlib.Core.Bool.{true, false}
-use mathlib.Core.List.{[]}
 use Rattle.counter.specs.declared.Channel.{Channel}
 use Rattle.ports.specs.Virtuals.{virtualLevel}
 use Rattle.ports.specs.declared.Pin.{Pin}
@@ -11,10 +10,9 @@ use Rattle.calls.specs.Reply.{Reply}
 use Rattle.calls.specs.declared.Event.{Event}
 use Rattle.board.specs.Respond.{respond}
 use Rattle.board.specs.Handed.{resetBoard, applied}
-use Rattle.board.specs.Runs.{finish}
 use Rattle.board.specs.declared.Board.{Board}
 use Rattle.reach.specs.Range.{InRange}
-use Rattle.reach.proofs.Reach.{demand2}
+use Rattle.reach.proofs.Reach.{reset-ranged, demand2}
 use Rattle.isolation.specs.Members.{Members}
 use Rattle.isolation.specs.Settings.{Settings, untold, told}
 use Rattle.isolation.specs.Closed.{Closed}
@@ -101,10 +99,6 @@ module _ (M : Members) where
           level = λ i. virtualLevel (s .core i .safety .safemode) (q i);
         };
   }
-
-reset-ranged : InRange resetBoard
-unfolding finish
-reset-ranged = demand2 .1 [] .last
 
 -- the boards at reset
 at-reset : (M : Members) → Beside M resetBoard resetBoard

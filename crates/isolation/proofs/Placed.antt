@@ -3,13 +3,12 @@
 use mathlib.Core.Path.{_≡_, refl, ap, _∙_}
 use mathlib.Core.Bool.{Bool, cond}
 use mathlib.Core.List.{List}
-use Prim.Native.Nat.{ℕ, _%_, _^_, _<_}
-use native.Mathlib.Omega.{arith}
+use Prim.Native.Nat.{ℕ, _<_}
 use lib.ListN.{length, set}
 use lib.Seq.{getD-set-same, getD-set-other}
 use borrow.Author.Tests.{eq-eqb, ne-eqb}
-use Rattle.words.specs.Bits.{bit, word, putBit}
-use Rattle.words.proofs.BitLaws.{bit-word, word-of}
+use Rattle.words.specs.Bits.{bit, putBit}
+use Rattle.words.proofs.BitLaws.{bit-word}
 use Rattle.counter.specs.Repair.{noChannel}
 use Rattle.counter.specs.declared.Channel.{Channel}
 use Rattle.ports.specs.Pins.{number, pinAt, putPin}
@@ -17,6 +16,7 @@ use Rattle.ports.specs.Virtuals.{virtualAt, putVirtual}
 use Rattle.ports.specs.declared.Pin.{Pin}
 use Rattle.ports.specs.declared.Pins.{Pins}
 use Rattle.ports.specs.declared.Virtuals.{Virtuals}
+use Rattle.ports.proofs.Planes.{held}
 use Rattle.board.specs.Inputs.{channelIn}
 use Rattle.isolation.proofs.Stores.{Placing}
 
@@ -51,8 +51,8 @@ storedPin q =
 
 -- a source number in its range is held
 pub source-held : (q : Pin) → q .source < 7 → storedPin q .source ≡ q .source
-unfolding storedPin word
-source-held q h = let e : q .source % 2 ^ 3 ≡ word 3 (bit (q .source)) = word-of 3 (q .source) in omega arith
+unfolding storedPin
+source-held q h = held (q .source) h
 
 pub pins-placed : (x : Pins) → Placing 48 pinAt putPin storedPin x
 unfolding pinAt putPin storedPin

@@ -31,6 +31,20 @@ other k a b h d = ap (λ n. eqb n b) (eqb-true k a h) ∙ d
 abbrev pub setBy : Bool → Answer → ℕ → ℕ → ℕ
 setBy u a v old = cond (u && eqb (a .result) 0) v old
 
+-- a reply to a call on x: its setting g is set by V if u, and kept if not
+pub record Sets {X : Type 0} (g : X → ℕ) (u : Bool) (v : ℕ) (x : X) (r : Reply X) : Type 0 where
+  pub after : g (r .state) ≡ setBy u (r .answer) v (g x)
+
+module _ {X : Type 0} {g : X → ℕ} {x : X} where
+  -- by a call that does not set it
+  keeping : {u : Bool} {v : ℕ} {y : X} {a : Answer} → u ≡ false → g y ≡ g x → Sets g u v x (reply y a)
+  keeping h s = record { after = rw h s }
+
+  -- by a refusal
+  refusing : (u : Bool) {v n : ℕ} → eqb n 0 ≡ false → Sets g u v x (refuse n x)
+  refusing true h = record { after = rw h refl }
+  refusing false h = record { after = refl }
+
 -- ---- channels
 
 -- d has the settings of c
@@ -69,38 +83,33 @@ module _ (c : Channel) where
 
   -- u: it is call 1, w: it is call 4
   pub record SetChannel (u w : Bool) (v : ℕ) (r : Reply Channel) : Type 0 where
-    pub mode : r .state .mode ≡ setBy u (r .answer) v (c .mode)
-    pub route : r .state .route ≡ setBy w (r .answer) v (c .route)
+    pub mode : Sets (λ x. x .mode) u v c r
+    pub route : Sets (λ x. x .route) w v c r
 
-  -- a reply that keeps the settings, by a call that sets none
-  keeping : {u w : Bool} {v : ℕ} {d : Channel} {a : Answer} → u ≡ false → w ≡ false → SameSettings c d → SetChannel u w v (reply d a)
-  keeping h j s = record { mode = rw h (s .mode); route = rw j (s .route) }
+  kept : {u w : Bool} {v : ℕ} {d : Channel} {a : Answer} → u ≡ false → w ≡ false → SameSettings c d → SetChannel u w v (reply d a)
+  kept h j s = record { mode = keeping h (s .mode); route = keeping j (s .route) }
 
-  -- a refusal by the channel
-  refusing : (u w : Bool) (v n : ℕ) → eqb n 0 ≡ false → SetChannel u w v (refuse n c)
-  refusing true true v n h = record { mode = rw h refl; route = rw h refl }
-  refusing true false v n h = record { mode = rw h refl; route = refl }
-  refusing false true v n h = record { mode = refl; route = rw h refl }
-  refusing false false v n h = record { mode = refl; route = refl }
+  refused : (u w : Bool) (v n : ℕ) → eqb n 0 ≡ false → SetChannel u w v (refuse n c)
+  refused u w v n h = record { mode = refusing u h; route = refusing w h }
 
   mode-set : (v : ℕ) → SetChannel true false v (modeWrite v c)
   unfolding modeWrite
   mode-set v =
-      let written : SetChannel true false v (accept (withMode v c)) = record { mode = refl; route = refl } in
-      either (SetChannel true false v) (c .running) (refusing true false v 4 refl) written
+      let written : SetChannel true false v (accept (withMode v c)) = record { mode = record { after = refl }; route = record { after = refl } } in
+      either (SetChannel true false v) (c .running) (refused true false v 4 refl) written
 
   route-set : (v : ℕ) → SetChannel false true v (routeWrite v c)
   unfolding routeWrite
   route-set v =
-      let written : SetChannel false true v (accept (withRoute v c)) = record { mode = refl; route = refl } in
-      either (SetChannel false true v) (c .running) (refusing false true v 4 refl) written
+      let written : SetChannel false true v (accept (withRoute v c)) = record { mode = record { after = refl }; route = record { after = refl } } in
+      either (SetChannel false true v) (c .running) (refused false true v 4 refl) written
 
   read-set : {u w : Bool} (v : ℕ) → u ≡ false → w ≡ false → SetChannel u w v (snapshotRead c)
   unfolding snapshotRead
   read-set {u} {w} v h j =
       let S = SetChannel u w v in
-      either S (ltb 0 (c .lost)) (keeping h j (record { mode = refl; route = refl }))
-      (either S (eqb (c .held) 0) (refusing u w v 5 refl) (keeping h j popped-same))
+      either S (ltb 0 (c .lost)) (kept h j (record { mode = refl; route = refl }))
+      (either S (eqb (c .held) 0) (refused u w v 5 refl) (kept h j popped-same))
 
   pub channel-set : (t : ℕ) (e : Event) → SetChannel (eqb (e .kind) 1) (eqb (e .kind) 4) (e .v) (channelCall t e c)
   unfolding channelCall
@@ -109,53 +118,41 @@ module _ (c : Channel) where
       let S = SetChannel (eqb k 1) (eqb k 4) (e .v) in
       let same : SameSettings c c = record { mode = refl; route = refl } in
       tested S (eqb k 1) (λ h. rw (h, other k 1 4 h refl) (mode-set (e .v))) (λ h1.
-      tested S (eqb k 2) (λ h. keeping h1 (other k 2 4 h refl) (record { mode = refl; route = refl })) (λ _.
-      tested S (eqb k 3) (λ h. keeping h1 (other k 3 4 h refl) (record { mode = refl; route = refl })) (λ _.
+      tested S (eqb k 2) (λ h. kept h1 (other k 2 4 h refl) (record { mode = refl; route = refl })) (λ _.
+      tested S (eqb k 3) (λ h. kept h1 (other k 3 4 h refl) (record { mode = refl; route = refl })) (λ _.
       tested S (eqb k 4) (λ h. rw (h1, h) (route-set (e .v))) (λ h4.
-      either S (eqb k 5) (keeping h1 h4 (record { mode = refl; route = refl }))
-      (either S (eqb k 6) (keeping h1 h4 started-same)
-      (either S (eqb k 7) (keeping h1 h4 (record { mode = refl; route = refl }))
-      (either S (eqb k 8) (keeping h1 h4 (captured-same _ _ _ _ same))
-      (either S (eqb k 9) (keeping h1 h4 (preloaded-same _ same))
-      (either S (eqb k 10) (keeping h1 h4 same)
+      either S (eqb k 5) (kept h1 h4 (record { mode = refl; route = refl }))
+      (either S (eqb k 6) (kept h1 h4 started-same)
+      (either S (eqb k 7) (kept h1 h4 (record { mode = refl; route = refl }))
+      (either S (eqb k 8) (kept h1 h4 (captured-same _ _ _ _ same))
+      (either S (eqb k 9) (kept h1 h4 (preloaded-same _ same))
+      (either S (eqb k 10) (kept h1 h4 same)
       (either S (eqb k 11) (read-set (e .v) h1 h4)
-      (keeping h1 h4 same)))))))))))
+      (kept h1 h4 same)))))))))))
 
 -- ---- pins and the board's own part
 
-pub record SetPin (u : Bool) (v : ℕ) (q : Pin) (r : Reply Pin) : Type 0 where
-  pub source : r .state .source ≡ setBy u (r .answer) v (q .source)
-
-pin-keeping : {u : Bool} {v : ℕ} {q d : Pin} {a : Answer} → u ≡ false → d .source ≡ q .source → SetPin u v q (reply d a)
-pin-keeping h s = record { source = rw h s }
-
-pub pin-set : (q : Pin) (writes : Bool) (e : Event) → SetPin (eqb (e .kind) 13) (e .v) q (pinCall writes e q)
+pub pin-set : (q : Pin) (writes : Bool) (e : Event) → Sets (λ x. x .source) (eqb (e .kind) 13) (e .v) q (pinCall writes e q)
 unfolding pinCall
 pin-set q writes e =
     let k = e .kind in
-    let S = SetPin (eqb k 13) (e .v) q in
-    tested S (eqb k 13) (λ h. record { source = rw h refl }) (λ h.
-    either S (eqb k 14) (pin-keeping h refl)
-    (either S (eqb k 15) (pin-keeping h (either (λ (x : Pin). x .source ≡ q .source) writes refl refl))
-    (either S (eqb k 16) (pin-keeping h (either (λ (x : Pin). x .source ≡ q .source) writes refl refl))
-    (pin-keeping h refl))))
+    let S = Sets (λ (x : Pin). x .source) (eqb k 13) (e .v) q in
+    tested S (eqb k 13) (λ h. record { after = rw h refl }) (λ h.
+    either S (eqb k 14) (keeping h refl)
+    (either S (eqb k 15) (keeping h (either (λ (x : Pin). x .source ≡ q .source) writes refl refl))
+    (either S (eqb k 16) (keeping h (either (λ (x : Pin). x .source ≡ q .source) writes refl refl))
+    (keeping h refl))))
 
-pub record SetCore (u : Bool) (v : ℕ) (k : Core) (r : Reply Core) : Type 0 where
-  pub control : r .state .safety .control ≡ setBy u (r .answer) v (k .safety .control)
-
-core-keeping : {u : Bool} {v : ℕ} {k d : Core} {a : Answer} → u ≡ false → d .safety .control ≡ k .safety .control → SetCore u v k (reply d a)
-core-keeping h s = record { control = rw h s }
-
-pub core-set : (k : Core) (e : Event) → SetCore (eqb (e .kind) 22) (e .v) k (boardCall e k)
+pub core-set : (k : Core) (e : Event) → Sets (λ x. x .safety .control) (eqb (e .kind) 22) (e .v) k (boardCall e k)
 unfolding boardCall intervalWrite
 core-set k e =
     let n = e .kind in
-    let S = SetCore (eqb n 22) (e .v) k in
-    tested S (eqb n 22) (λ h. record { control = rw h refl }) (λ h.
-    either S (eqb n 23) (core-keeping h refl)
-    (either S (eqb n 24) (core-keeping h refl)
-    (either S (eqb n 25) (either S (k .watchdog .enabled) (core-keeping h refl) (core-keeping h refl))
-    (either S (eqb n 26) (core-keeping h refl)
-    (either S (eqb n 27) (core-keeping h refl)
-    (either S (eqb n 28) (core-keeping h refl)
-    (core-keeping h refl)))))))
+    let S = Sets (λ (x : Core). x .safety .control) (eqb n 22) (e .v) k in
+    tested S (eqb n 22) (λ h. record { after = rw h refl }) (λ h.
+    either S (eqb n 23) (keeping h refl)
+    (either S (eqb n 24) (keeping h refl)
+    (either S (eqb n 25) (either S (k .watchdog .enabled) (keeping h refl) (keeping h refl))
+    (either S (eqb n 26) (keeping h refl)
+    (either S (eqb n 27) (keeping h refl)
+    (either S (eqb n 28) (keeping h refl)
+    (keeping h refl)))))))

@@ -4,9 +4,9 @@ use mathlib.Core.Path.{_≡_, refl, ap, sym, _∙_}
 use mathlib.Core.Bool.{true, false}
 use Prim.Native.Nat.{ℕ, _<_}
 use native.Mathlib.Omega.{arith}
-use lib.Dec.{eqb, ltb}
+use lib.Dec.{eqb}
 use lib.ListN.{getD-replicate}
-use borrow.Author.Tests.{ltb-true, eqb-false, eq-eqb, ne-eqb}
+use borrow.Author.Tests.{eqb-false, eq-eqb, ne-eqb}
 use Rattle.words.proofs.BitLaws.{bit-none}
 use Rattle.words.proofs.Cases.{tested}
 use Rattle.counter.specs.Repair.{noChannel, resetChannel}
@@ -29,11 +29,12 @@ use Rattle.board.specs.Handed.{resetBoard}
 use Rattle.board.specs.declared.Board.{Board}
 use Rattle.reach.specs.Range.{InRange}
 use Rattle.reach.proofs.Tables.{getD-tab}
+use Rattle.reach.proofs.RangedBoard.{past-checks}
 use Rattle.reach.proofs.RangedPins.{pin-sound, pin-ranged}
 use Rattle.isolation.specs.Settings.{Settings, untold, latest, told}
 use Rattle.isolation.proofs.Placed.{channels-placed, source-held, pins-placed}
-use Rattle.isolation.proofs.Told.{Told}
-use Rattle.isolation.proofs.Sets.{setBy, advance-same, SetChannel, channel-set, SetPin, pin-set, core-set}
+use Rattle.isolation.proofs.Told.{Told, settingsOf, settings-told}
+use Rattle.isolation.proofs.Sets.{setBy, advance-same, Sets, SetChannel, channel-set, pin-set, core-set}
 use Rattle.isolation.proofs.Latest.{of-another-kind, not-accepted, on-it, put-told}
 
 -- ---- before the first event
@@ -53,17 +54,7 @@ told-at-reset = record {
 abbrev Silent : Event → Answer → ℕ → Type 0
 Silent e a k = (i old : ℕ) → latest k i e a old ≡ old
 
--- a board with the settings of b
-pub record Kept (b d : Board) : Type 0 where
-  pub mode : (c : ℕ) → c < 6 → channelIn (d .channels) c .mode ≡ channelIn (b .channels) c .mode
-  pub route : (c : ℕ) → c < 6 → channelIn (d .channels) c .route ≡ channelIn (b .channels) c .route
-  pub source : (p : ℕ) → p < 48 → pinAt (d .pins) p .source ≡ pinAt (b .pins) p .source
-  pub control : d .core .safety .control ≡ b .core .safety .control
-
-pub unmoved : (b : Board) → Kept b b
-unmoved b = record { mode = λ c h. refl; route = λ c h. refl; source = λ p h. refl; control = refl }
-
-quiet : (t : Settings) (b d : Board) (e : Event) (a : Answer) → Told t b → Kept b d → Silent e a 1 → Silent e a 4 → Silent e a 13 → Silent e a 22 → Told (told t e a) d
+quiet : (t : Settings) (b d : Board) (e : Event) (a : Answer) → Told t b → Told (settingsOf b) d → Silent e a 1 → Silent e a 4 → Silent e a 13 → Silent e a 22 → Told (told t e a) d
 unfolding told
 quiet t b d e a m k k1 k4 k13 k22 = record {
   mode = λ c h. k .mode c h ∙ m .mode c h ∙ sym (k1 c (t .mode c));
@@ -85,13 +76,13 @@ module _ (e : Event) (a : Answer) where
   of-class : (C : Class) → classOf (e .kind) ≡ C → (k : ℕ) → eqb (code C) (code (classOf k)) ≡ false → Silent e a k
   of-class C p k d i old = of-another-kind k i e a old (ne-eqb (e .kind) k (λ h. eqb-false (code C) (code (classOf k)) d (ap code (sym p ∙ ap classOf h))))
 
-  pub step-quiet : (t : Settings) (b d : Board) → classOf (e .kind) ≡ step → Told t b → Kept b d → Told (told t e a) d
+  pub step-quiet : (t : Settings) (b d : Board) → classOf (e .kind) ≡ step → Told t b → Told (settingsOf b) d → Told (told t e a) d
   step-quiet t b d p m k =
       quiet t b d e a m k (of-class step p 1 refl) (of-class step p 4 refl) (of-class step p 13 refl) (of-class step p 22 refl)
 
 -- ---- the step
 
-stepped-keeps : (v w : ℕ) (b : Board) → Kept b (stepped v w b)
+stepped-keeps : (v w : ℕ) (b : Board) → Told (settingsOf b) (stepped v w b)
 unfolding stepped stepWith allNext channelNext coreNext guarded driven sensedWith pinAt
 stepped-keeps v w b = record {
   mode = λ c h. ap (λ (x : Channel). x .mode) (getD-tab 6 _ c noChannel h) ∙ advance-same (channelIn (b .channels) c) _ .mode;
@@ -108,16 +99,13 @@ record Telling (t : Settings) (e : Event) (r : Reply Board) : Type 0 where
 
 module _ (t : Settings) (b : Board) (e : Event) (m : Told t b) (range : InRange b) where
   refused : (n : ℕ) → eqb n 0 ≡ false → Telling t e (refuse n b)
-  refused n h = record { after = quiet t b b e _ m (unmoved b) (silent 1) (silent 4) (silent 13) (silent 22) }
+  refused n h = record { after = quiet t b b e _ m (settings-told b) (silent 1) (silent 4) (silent 13) (silent 22) }
     where
       silent : (k : ℕ) → Silent e (record { result = n; value = 0; timestamp = 0; reason = 0 }) k
       silent k i old = not-accepted k i e _ old h
 
   within : (n : ℕ) (r : Reply Board) → (e .member < n → fits e ≡ true → Telling t e r) → Telling t e (checked n e b r)
-  within n r s =
-      tested (Telling t e) (ltb (e .member) n)
-      (λ h. tested (Telling t e) (fits e) (s (ltb-true _ _ h)) (λ _. refused 3 refl))
-      (λ _. refused 1 refl)
+  within n r = past-checks (Telling t e) n e b r (refused 3 refl) (refused 1 refl)
 
   by-class : (C : Class) → classOf (e .kind) ≡ C → Telling t e (respondBy stepped C b e)
   unfolding respondBy told
@@ -131,8 +119,8 @@ module _ (t : Settings) (b : Board) (e : Event) (m : Told t b) (range : InRange 
       let s : SetChannel c (eqb (e .kind) 1) (eqb (e .kind) 4) (e .v) q = channel-set c _ e in
       record {
         after = record {
-          mode = put-told 6 channelIn (b .channels) (channels-placed (b .channels) (range .six)) (λ x. x .mode) 1 e q (t .mode) k (s .mode) (m .mode);
-          route = put-told 6 channelIn (b .channels) (channels-placed (b .channels) (range .six)) (λ x. x .route) 4 e q (t .route) k (s .route) (m .route);
+          mode = put-told 6 channelIn (b .channels) (channels-placed (b .channels) (range .six)) (λ x. x .mode) 1 e q (t .mode) k (s .mode .after) (m .mode);
+          route = put-told 6 channelIn (b .channels) (channels-placed (b .channels) (range .six)) (λ x. x .route) 4 e q (t .route) k (s .route .after) (m .route);
           source = λ i h. m .source i h ∙ sym (of-class e _ channel p 13 refl i (t .source i));
           control = m .control ∙ sym (of-class e _ channel p 22 refl 0 (t .control));
         };
@@ -140,14 +128,14 @@ module _ (t : Settings) (b : Board) (e : Event) (m : Told t b) (range : InRange 
   by-class pin p = within 48 _ (λ k f.
       let x : Pin = pinAt (b .pins) (e .member) in
       let q : Reply Pin = pinCall (b .core .safety .writes) e x in
-      let s : SetPin (eqb (e .kind) 13) (e .v) x q = pin-set x _ e in
+      let s : Sets (λ (z : Pin). z .source) (eqb (e .kind) 13) (e .v) x q = pin-set x _ e in
       record {
         after = record {
           mode = λ c h. m .mode c h ∙ sym (of-class e _ pin p 1 refl c (t .mode c));
           route = λ c h. m .route c h ∙ sym (of-class e _ pin p 4 refl c (t .route c));
           source =
               put-told 48 pinAt (b .pins) (pins-placed (b .pins)) (λ x. x .source) 13 e q (t .source) k
-              (source-held (q .state) (pin-sound x (pin-ranged (b .pins) (range .pins) (e .member) k) _ e f .ranged .source) ∙ s .source) (m .source);
+              (source-held (q .state) (pin-sound x (pin-ranged (b .pins) (range .pins) (e .member) k) _ e f .ranged .source) ∙ s .after) (m .source);
           control = m .control ∙ sym (of-class e _ pin p 22 refl 0 (t .control));
         };
       })
@@ -161,7 +149,7 @@ module _ (t : Settings) (b : Board) (e : Event) (m : Told t b) (range : InRange 
       route = λ c h. m .route c h ∙ sym (of-class e _ board p 4 refl c (t .route c));
       source = λ i h. m .source i h ∙ sym (of-class e _ board p 13 refl i (t .source i));
       control =
-          core-set (b .core) e .control
+          core-set (b .core) e .after
           ∙ ap (λ z. setBy (eqb (e .kind) 22) (boardCall e (b .core) .answer) (e .v) z) (m .control)
           ∙ sym (on-it 22 0 e _ (t .control) (eq-eqb (e .member) 0 (omega arith)));
     };

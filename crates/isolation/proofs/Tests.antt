@@ -1,41 +1,26 @@
 -- Settings whose six tests hold are closed, and so is a list after each of whose events they hold.
 -- Assumes nothing.
-use mathlib.Core.Path.{_≡_, refl}
+use mathlib.Core.Path.{_≡_, refl, sym, _∙_}
 use mathlib.Core.Bool.{Bool, true, false, _&&_, and-eq-true-iff}
 use mathlib.Core.List.{List, [], _∷_}
 use Prim.Native.Nat.{ℕ, zero, suc, _<_, zero-le, suc-le-suc}
-use native.Mathlib.Nat.{le-of-suc-le-suc, not-suc-le-zero}
 use native.Mathlib.Omega.{arith}
 use lib.Dec.{eqb, ltb}
 use lib.ListN.{getD}
 use borrow.Author.Tests.{eq-eqb, eqb-true, lt-ltb, ltb-true}
+use Rattle.words.specs.Table.{tab}
 use Rattle.counter.specs.Mode.{XS, K}
 use Rattle.control.specs.Safety.{pinTriggers}
 use Rattle.calls.specs.Reply.{Reply}
 use Rattle.calls.specs.declared.Answer.{Answer}
 use Rattle.board.specs.Handed.{resetBoard}
 use Rattle.reach.proofs.Cases.{asked}
+use Rattle.reach.proofs.Tables.{getD-tab}
 use Rattle.isolation.specs.Lists.{AfterEach}
 use Rattle.isolation.specs.Members.{Members}
 use Rattle.isolation.specs.Settings.{Settings, untold, told}
 use Rattle.isolation.specs.Closed.{Closed}
 use Rattle.isolation.specs.Tests.{every, implies, carryingAt, indexingAt, routedPinAt, routedVirtualAt, drivingAt, clauses, all, afterEach, Decided}
-
--- one of every
-at : (n : ℕ) (f : ℕ → Bool) → every n f ≡ true → (i : ℕ) → i < n → f i ≡ true
-unfolding every
-at zero f h i k = absurd (not-suc-le-zero k)
-at (suc n) f h zero k = and-eq-true-iff (f zero) _ .0 h .0
-at (suc n) f h (suc i) k = at n (λ j. f (suc j)) (and-eq-true-iff (f zero) _ .0 h .1) i (le-of-suc-le-suc k)
-
-all-of : (n : ℕ) (f : ℕ → Bool) → ((i : ℕ) → i < n → f i ≡ true) → every n f ≡ true
-unfolding every
-all-of zero f h = refl
-all-of (suc n) f h = and-eq-true-iff (f zero) _ .1 (h zero (suc-le-suc zero-le), all-of n (λ j. f (suc j)) (λ i k. h (suc i) (suc-le-suc k)))
-
-implying : (s t : Bool) → (s ≡ true → t ≡ true) → implies s t ≡ true
-implying true t h = h refl
-implying false t h = refl
 
 -- one of all
 each : (ts : List Bool) → all ts ≡ true → (k : ℕ) → getD ts k true ≡ true
@@ -43,6 +28,18 @@ unfolding all
 each [] h k = refl
 each (t ∷ ts) h zero = and-eq-true-iff t (all ts) .0 h .0
 each (t ∷ ts) h (suc k) = each ts (and-eq-true-iff t (all ts) .0 h .1) k
+
+at : (n : ℕ) (f : ℕ → Bool) → every n f ≡ true → (i : ℕ) → i < n → f i ≡ true
+at n f h i k = sym (getD-tab n f i true k) ∙ each (tab n f) h i
+
+all-of : (n : ℕ) (f : ℕ → Bool) → ((i : ℕ) → i < n → f i ≡ true) → every n f ≡ true
+unfolding tab all
+all-of zero f h = refl
+all-of (suc n) f h = and-eq-true-iff (f zero) _ .1 (h zero (suc-le-suc zero-le), all-of n (λ j. f (suc j)) (λ i k. h (suc i) (suc-le-suc k)))
+
+implying : (s t : Bool) → (s ≡ true → t ≡ true) → implies s t ≡ true
+implying true t h = h refl
+implying false t h = refl
 
 -- settings
 closed-by-tests : (M : Members) (s : Settings) → all (clauses M s) ≡ true → Closed M s

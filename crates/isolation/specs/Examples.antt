@@ -1,5 +1,4 @@
--- Lists of demand 3 written down: two alike lists with closed members and what both are answered; and for each clause of closed members two
--- alike lists that break it alone and are answered differently.
+-- Lists of demand 3 written down: two alike lists with closed members and what both are answered; and questions about the wording.
 -- Assumes nothing.
 use mathlib.Core.Path.{_≡_}
 use mathlib.Core.Bool.{Bool, true, false, _||_}
@@ -16,7 +15,7 @@ use Rattle.board.specs.Runs.{finish}
 use Rattle.isolation.specs.Members.{Members}
 use Rattle.isolation.specs.Same.{levelOf}
 use Rattle.isolation.specs.Claim.{ClosedThroughout, remainderOf, Alike, answersOf}
-use Rattle.isolation.specs.Tests.{isClosedThroughout, isClosedBut}
+use Rattle.isolation.specs.Tests.{isClosedThroughout}
 
 unfoldable pub among : List ℕ → ℕ → Bool
 among [] n = false
@@ -83,50 +82,6 @@ pub record Example (M : Members) (es fs : List Event) (xs : List Answer) : Type 
   pub alike : Alike applied M es fs
   pub answers : (answersOf applied M es ≡ xs) × (answersOf applied M fs ≡ xs)
 
--- ---- every clause is needed
-
--- two alike lists that keep the other clauses, clause k being the one in place k of the tests, and are answered xs and ys
-pub record Needed (k : ℕ) (M : Members) (es fs : List Event) (xs ys : List Answer) : Type 0 where
-  pub others : (isClosedBut applied M k es ≡ true) × (isClosedBut applied M k fs ≡ true)
-  pub alike : Alike applied M es fs
-  pub answers : (answersOf applied M es ≡ xs) × (answersOf applied M fs ≡ ys)
-
--- n events answered 0 with value 0, then one with value v
-abbrev pub ending : ℕ → ℕ → List Answer
-ending n v = replicate n (number 0 0) ++ (number 0 v ∷ [])
-
--- channel 0 started by a mode that counts every step while ExtIn is high, by the route r
-abbrev pub gated : ℕ → List Event
-gated r = call 1 0 0x02000030 ∷ call 4 0 r ∷ call 6 0 0 ∷ []
-
-pub record EachNeeded : Type 0 where
-  -- channel 1 counts the carries of channel 0, which wraps in one list
-  pub carrying : Needed 0 (members (1 ∷ []) [] [])
-      (call 1 0 0x30 ∷ call 2 0 4294967295 ∷ call 9 0 0 ∷ call 6 0 0 ∷ call 1 1 0x40 ∷ call 6 1 0 ∷ lines 0 0 ∷ lines 0 0 ∷ call 10 1 0 ∷ [])
-      (call 1 1 0x40 ∷ call 6 1 0 ∷ lines 0 0 ∷ lines 0 0 ∷ call 10 1 0 ∷ [])
-      (ending 4 1) (ending 4 0)
-  -- channel 1 is armed by its index, ExtOut of channel 0, which is inverted in one list
-  pub indexing : Needed 1 (members (1 ∷ []) [] [])
-      (call 1 0 0x00020000 ∷ call 1 1 0x232 ∷ call 6 1 0 ∷ lines 0 0 ∷ lines 0 0 ∷ call 10 1 0 ∷ [])
-      (call 1 1 0x232 ∷ call 6 1 0 ∷ lines 0 0 ∷ lines 0 0 ∷ call 10 1 0 ∷ [])
-      (ending 4 1) (ending 4 0)
-  -- channel 0 counts while pin 3 is high, as it is in one list
-  pub routedPin : Needed 2 (members (0 ∷ []) [] [])
-      (gated 3 ++ (lines 0 (2 ^ 3) ∷ call 10 0 0 ∷ [])) (gated 3 ++ (lines 0 0 ∷ call 10 0 0 ∷ []))
-      (ending 4 1) (ending 4 0)
-  -- channel 0 counts while virtual output 0 is high, as it is in one list
-  pub routedVirtual : Needed 3 (members (0 ∷ []) [] [])
-      (gated 48 ++ (call 18 0 1 ∷ lines 0 0 ∷ call 10 0 0 ∷ [])) (gated 48 ++ (lines 0 0 ∷ call 10 0 0 ∷ []))
-      (ending 4 1) (ending 4 0)
-  -- pin 0 shows ExtOut of channel 0, which is inverted in one list
-  pub driving : Needed 4 (members [] (0 ∷ []) [])
-      (call 13 0 1 ∷ call 1 0 0x00020000 ∷ lines 0 0 ∷ lines 0 0 ∷ call 17 0 0 ∷ []) (call 13 0 1 ∷ lines 0 0 ∷ lines 0 0 ∷ call 17 0 0 ∷ [])
-      (ending 3 1) (ending 3 0)
-  -- pin 47 sets safemode, as it does in one list
-  pub triggering : Needed 5 (members [] [] [])
-      (call 22 0 3 ∷ lines 0 (2 ^ 47) ∷ call 29 0 0 ∷ []) (call 22 0 3 ∷ lines 0 0 ∷ call 29 0 0 ∷ [])
-      (ending 2 1) (ending 2 0)
-
 -- ---- questions about the wording, each with the reading that is taken
 
 pub record Wording : Type 0 where
@@ -147,8 +102,3 @@ pub record Wording : Type 0 where
   -- the level of a virtual output at the end is by the safemode that a call 24 after the last step left
   pub levelAtEnd : (levelOf 0 (finish applied resetBoard (call 18 0 1 ∷ call 22 0 1 ∷ lines 0 0 ∷ call 24 0 0 ∷ [])) ≡ true)
       × (levelOf 0 (finish applied resetBoard (call 18 0 1 ∷ call 22 0 1 ∷ lines 0 0 ∷ [])) ≡ false)
-
-pub record Examples : Type 0 where
-  pub alike : Example group shared sole given
-  pub needed : EachNeeded
-  pub wording : Wording

@@ -7,4 +7,4 @@ pub mod Same
 pub mod Claim
 pub mod Tests
 pub mod Examples
-pub mod Wrong
+pub mod Apart

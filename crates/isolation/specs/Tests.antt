@@ -5,6 +5,7 @@ use mathlib.Core.Bool.{Bool, true, not, _&&_, _||_}
 use mathlib.Core.List.{List, [], _∷_}
 use Prim.Native.Nat.{ℕ, zero, suc, _-_}
 use lib.Dec.{eqb, ltb}
+use Rattle.words.specs.Table.{tab}
 use Rattle.counter.specs.Mode.{XS, K}
 use Rattle.control.specs.Safety.{pinTriggers}
 use Rattle.calls.specs.Reply.{Reply}
@@ -17,10 +18,13 @@ use Rattle.isolation.specs.Members.{Members}
 use Rattle.isolation.specs.Settings.{Settings, untold, told}
 use Rattle.isolation.specs.Claim.{ClosedThroughout}
 
+unfoldable pub all : List Bool → Bool
+all [] = true
+all (t ∷ ts) = t && all ts
+
 -- f holds of 0 to n − 1
-unfoldable pub every : ℕ → (ℕ → Bool) → Bool
-every zero f = true
-every (suc n) f = f zero && every n (λ i. f (suc i))
+abbrev pub every : ℕ → (ℕ → Bool) → Bool
+every n f = all (tab n f)
 
 abbrev pub implies : Bool → Bool → Bool
 implies s t = not s || t
@@ -52,10 +56,6 @@ module _ (M : Members) (s : Settings) where
       ∷ every 48 drivingAt
       ∷ implies (pinTriggers (s .control)) (M .isPin 47)
       ∷ []
-
-unfoldable pub all : List Bool → Bool
-all [] = true
-all (t ∷ ts) = t && all ts
 
 -- those other than the one in place k
 unfoldable pub without : ℕ → List Bool → List Bool

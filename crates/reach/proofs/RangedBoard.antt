@@ -15,7 +15,7 @@ use Rattle.counter.specs.Repair.{noChannel}
 use Rattle.counter.specs.declared.Channel.{Channel}
 use Rattle.ports.specs.Pins.{pinAt, putPin, pinLevel}
 use Rattle.ports.specs.Virtuals.{virtualAt, putVirtual, routed}
-use Rattle.calls.specs.Reply.{Reply}
+use Rattle.calls.specs.Reply.{Reply, refuse}
 use Rattle.calls.specs.Fields.{fits}
 use Rattle.calls.specs.declared.Event.{Event}
 use Rattle.board.specs.Inputs.{channelIn, neighbour, indexOf, samplesOf, inputsOf, channelNext, allNext}
@@ -60,6 +60,12 @@ stepped-ranged v w b r = record {
 
 -- ---- the calls
 
+-- what holds of the refusals 3 and 1, and of a reply where the member is one of n and the fields fit, holds of the reply past these checks
+pub past-checks : (P : Reply Board → Type 0) (n : ℕ) (e : Event) (b : Board) (x : Reply Board) → P (refuse 3 b) → P (refuse 1 b)
+    → (e .member < n → fits e ≡ true → P x) → P (checked n e b x)
+past-checks P n e b x p q s =
+    tested P (ltb (e .member) n) (λ h. tested P (fits e) (s (ltb-true _ _ h)) (λ _. p)) (λ _. q)
+
 -- an answer 6 sets the member's lost count to 0
 abbrev pub SoundEvent : Board → Event → Reply Board → Type 0
 SoundEvent b e = Sound InRange (λ y. y ≡ b) (λ y. y ≡ lostCleared (e .member) b)
@@ -85,10 +91,7 @@ module _ (b : Board) (r : InRange b) where
   module _ (e : Event) where
     -- the refusals 1 and 3 leave the board, so the call counts only where the member is one of n and the fields fit
     checked-sound : (n : ℕ) (x : Reply Board) → (e .member < n → fits e ≡ true → SoundEvent b e x) → SoundEvent b e (checked n e b x)
-    checked-sound n x s =
-        tested (SoundEvent b e) (ltb (e .member) n)
-        (λ h. tested (SoundEvent b e) (fits e) (s (ltb-true _ _ h)) (λ _. refusal 3 b refl r refl))
-        (λ _. refusal 1 b refl r refl)
+    checked-sound n x = past-checks (SoundEvent b e) n e b x (refusal 3 b refl r refl) (refusal 1 b refl r refl)
 
     by-class : (k : Class) → SoundEvent b e (respondBy stepped k b e)
     unfolding respondBy

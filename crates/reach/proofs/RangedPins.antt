@@ -2,14 +2,14 @@
 -- Assumes nothing.
 use mathlib.Core.Path.{_≡_}
 use mathlib.Core.Bool.{Bool, true, false, cond}
-use Prim.Native.Nat.{ℕ, _%_, _^_, _<_}
-use native.Mathlib.Omega.{arith}
+use Prim.Native.Nat.{ℕ, _^_, _<_}
 use lib.Dec.{eqb}
-use Rattle.words.specs.Bits.{bit, word}
-use Rattle.words.proofs.BitLaws.{word-lt, word-of, bit-word}
+use Rattle.words.specs.Bits.{bit}
+use Rattle.words.proofs.BitLaws.{word-lt, bit-word}
 use Rattle.ports.specs.Pins.{number, pinAt, putPin, sensedWith, driven}
 use Rattle.ports.specs.declared.Pin.{Pin}
 use Rattle.ports.specs.declared.Pins.{Pins}
+use Rattle.ports.proofs.Planes.{held}
 use Rattle.calls.specs.Fields.{limits, limit, fits}
 use Rattle.calls.specs.PinCalls.{pinCall}
 use Rattle.calls.specs.declared.Event.{Event}
@@ -61,16 +61,11 @@ free r l d = record {
   source = r .source;
 }
 
--- a source number below 7 is below 7 in its three bits too
-low-bits : (n : ℕ) → n < 7 → number (bit n 0) (bit n 1) (bit n 2) < 7
-unfolding word
-low-bits n h = let e : n % 2 ^ 3 ≡ word 3 (bit n) = word-of 3 n in omega arith
-
--- and so is the choice between it and pin i's
+-- a source number in its range, or pin i's, is in range as it is held
 chosen : (t : Bool) (n : ℕ) (x : Pins) (i : ℕ) → n < 7 → pinAt x i .source < 7
     → number (cond t (bit n 0) (bit (x .source0) i)) (cond t (bit n 1) (bit (x .source1) i)) (cond t (bit n 2) (bit (x .source2) i)) < 7
 unfolding pinAt
-chosen true n x i h k = low-bits n h
+chosen true n x i h k = rw (held n h) h
 chosen false n x i h k = k
 
 module _ (x : Pins) (r : PinsInRange x) where

@@ -49,7 +49,7 @@ reset-pins = record {
   source = λ p h. rw (bit-none p) (omega arith);
 }
 
-reset-ranged : InRange resetBoard
+pub reset-ranged : InRange resetBoard
 unfolding resetBoard resetVirtuals resetCore
 reset-ranged = record {
   six = refl;
