@@ -1,13 +1,13 @@
--- Laws of decimal digits.
+-- Laws of decimal and hexadecimal digits.
 -- Assumes nothing.
-use mathlib.Core.Path.{_≡_}
+use mathlib.Core.Path.{_≡_, refl}
 use mathlib.Core.List.{[], _∷_, _++_}
 use Prim.Native.Nat.{ℕ, zero, suc, _+_, _-_, _/_, _%_, _≤_, _<_}
 use native.Mathlib.Omega.{arith}
 use borrow.Author.Tests.{lt-ltb, le-ltb}
 use lib.ListN.{length, length-append}
 use Rattle.buffers.proofs.Joined.{split}
-use Rattle.text.specs.Decimal.{digits, decimal}
+use Rattle.text.specs.Decimal.{digits, decimal, digit, hexadecimal}
 
 pub digits-one : (k n : ℕ) → k ≡ 0 → digits k n ≡ (48 + n % 10) ∷ []
 unfolding digits
@@ -34,3 +34,19 @@ length-digits (suc k) n =
 pub length-decimal : (n : ℕ) → length (decimal n) ≤ 20
 unfolding decimal
 length-decimal n = length-digits 19 n
+
+-- ---- hexadecimal digits
+
+pub hexadecimal-none : (k n : ℕ) → k ≡ 0 → hexadecimal k n ≡ []
+unfolding hexadecimal
+hexadecimal-none k n e = rw e
+
+pub hexadecimal-more : (k n : ℕ) → 0 < k → hexadecimal k n ≡ hexadecimal (k - 1) (n / 16) ++ (digit (n % 16) ∷ [])
+unfolding hexadecimal
+hexadecimal-more zero n h = absurd (omega arith)
+hexadecimal-more (suc k) n h = let e : suc k - 1 ≡ k = omega arith in rw e
+
+pub length-hexadecimal : (k n : ℕ) → length (hexadecimal k n) ≡ k
+unfolding hexadecimal
+length-hexadecimal zero n = refl
+length-hexadecimal (suc k) n = simp (length-append, length-hexadecimal k (n / 16)) (omega arith)

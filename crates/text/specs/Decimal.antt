@@ -1,4 +1,4 @@
--- Numbers as text: decimal digits in ASCII.
+-- Numbers as text: decimal and hexadecimal digits in ASCII.
 -- Assumes nothing.
 use mathlib.Core.Bool.{cond}
 use mathlib.Core.List.{List, [], _∷_, _++_}
@@ -17,3 +17,12 @@ decimal n = digits 19 n
 -- a number and the byte behind it
 abbrev pub entry : ℕ → ℕ → List ℕ
 entry n b = decimal n ++ (b ∷ [])
+
+-- a digit below 16: 0 to 9, a to f
+unfoldable pub digit : ℕ → ℕ
+digit d = cond (ltb d 10) (48 + d) (87 + d)
+
+-- the lowest k hexadecimal digits of n, the highest first
+unfoldable pub hexadecimal : ℕ → ℕ → List ℕ
+hexadecimal zero n = []
+hexadecimal (suc k) n = hexadecimal k (n / 16) ++ (digit (n % 16) ∷ [])

@@ -1,0 +1,4 @@
+pub mod Tables
+pub mod Row
+pub mod Names
+pub mod Stores

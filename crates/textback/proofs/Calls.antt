@@ -1,0 +1,247 @@
+-- The line of a call, and of any six fields, is read as the event.
+-- Assumes nothing.
+use mathlib.Core.Path.{_≡_, refl, ap, sym, _∙_}
+use mathlib.Core.Bool.{Bool, true, false, cond, _&&_, _||_, and-eq-true-iff}
+use mathlib.Core.List.{List, [], _∷_, _++_, append-assoc}
+use Prim.Native.Nat.{ℕ, zero, suc, _+_, _*_, _/_, _%_, _^_, _≤_, _<_}
+use native.Mathlib.Nat.{mod-eq-of-lt}
+use native.Mathlib.Omega.{arith}
+use borrow.Author.Tests.{lt-ltb, ltb-true, eqb-true, eqb-false, eq-eqb, ne-eqb}
+use lib.Dec.{eqb, ltb}
+use lib.ListN.{length}
+use Rattle.words.specs.Table.{tab}
+use Rattle.words.proofs.Cases.{tested, either}
+use Rattle.calls.specs.Events.{call}
+use Rattle.calls.specs.declared.Event.{Event}
+use Rattle.text.specs.Decimal.{decimal, hexadecimal}
+use Rattle.text.proofs.Decimal.{length-decimal}
+use Rattle.scan.specs.Numbers.{number}
+use Rattle.kinds.specs.Names.{name, fieldsOf, fieldTable}
+use Rattle.kinds.proofs.Names.{Word, name-word, name-length}
+use Rattle.kinds.proofs.Tables.{tab-at}
+use Rattle.textin.specs.declared.Reading.{Reading}
+use Rattle.textin.specs.Readings.{withField, room, at, starting, takeWord}
+use Rattle.textout.specs.Prints.{fieldOf, fieldText, fieldsText, has, usual, callText}
+use Rattle.textback.proofs.Figures.{read, eight, figures-decimal, some-decimal, read-decimal, figures-eight, some-eight, read-eight, length-eight}
+use Rattle.textback.proofs.Walk.{word-figures, Kept, kept-none, kept-append, kept-word, kept-led, led, led-append, reads, reads-word, reads-led}
+use Rattle.textback.proofs.Takes.{take-name, take-field, ended}
+
+-- the fields hold no more than their bytes do
+pub record Ranged (e : Event) : Type 0 where
+  pub kind : e .kind < 2 ^ 8
+  pub member : e .member < 2 ^ 8
+  pub selector : e .selector < 2 ^ 8
+  pub spare : e .spare < 2 ^ 8
+  pub v : e .v < 2 ^ 32
+  pub w : e .w < 2 ^ 64
+
+module _ (e : Event) (r : Ranged e) where
+  field-room : (f : ℕ) → 0 < f → f < 7 → fieldOf e f < room f
+  unfolding fieldOf room
+  field-room zero z h = absurd (omega arith)
+  field-room (suc zero) z h = r .kind
+  field-room (suc (suc zero)) z h = r .member
+  field-room (suc (suc (suc zero))) z h = r .selector
+  field-room (suc (suc (suc (suc zero)))) z h = r .spare
+  field-room (suc (suc (suc (suc (suc zero))))) z h = r .v
+  field-room (suc (suc (suc (suc (suc (suc zero)))))) z h = r .w
+  field-room (suc (suc (suc (suc (suc (suc (suc f))))))) z h = absurd (omega arith)
+
+  room-most : (f : ℕ) → room f ≤ 2 ^ 64
+  unfolding room
+  room-most f = either (λ n. n ≤ 2 ^ 64) (ltb f 5) (omega arith) (either (λ n. n ≤ 2 ^ 64) (eqb f 5) (omega arith) (omega arith))
+
+  -- a field's text is a word that is read as the field
+  record Written (f : ℕ) (l : List ℕ) : Type 0 where
+    pub word : Word l
+    pub some : 0 < length l
+    pub short : length l ≤ 20
+    pub says : number l ≡ read (fieldOf e f)
+
+  written : (f : ℕ) → 0 < f → f < 7 → Written f (fieldText e f)
+  unfolding fieldText eight fieldOf
+  written f z h = tested (Written f) (eqb f 5 && eqb (e .kind) 1) hex dec
+    where
+      dec : (eqb f 5 && eqb (e .kind) 1) ≡ false → Written f (decimal (fieldOf e f))
+      dec t = record {
+        word = word-figures 58 (decimal (fieldOf e f)) (figures-decimal (fieldOf e f));
+        some = some-decimal (fieldOf e f);
+        short = length-decimal (fieldOf e f);
+        says = read-decimal (fieldOf e f) (omega (arith, field-room f z h, room-most f));
+      }
+
+      hex : (eqb f 5 && eqb (e .kind) 1) ≡ true → Written f (eight (e .v))
+      hex t = let five = eqb-true f 5 (and-eq-true-iff (eqb f 5) (eqb (e .kind) 1) .0 t .0) in record {
+        word = word-figures 121 (eight (e .v)) (figures-eight (e .v));
+        some = some-eight (e .v);
+        short = omega (arith, length-eight (e .v));
+        says = read-eight (e .v) (r .v) ∙ ap read (ap (fieldOf e) (sym five));
+      }
+
+-- ---- the fields that are left, n at most
+
+-- which they are, and the event with them
+goodLeft : ℕ → ℕ → Bool
+goodLeft zero left = true
+goodLeft (suc n) left = cond (eqb left 0) true (ltb 0 (left % 8) && (ltb (left % 8) 7 && goodLeft n (left / 8)))
+
+leftOver : ℕ → ℕ → ℕ
+leftOver zero left = left
+leftOver (suc n) left = cond (eqb left 0) left (leftOver n (left / 8))
+
+filled : ℕ → ℕ → Event → Event → Event
+filled zero left f e = f
+filled (suc n) left f e = cond (eqb left 0) f (filled n (left / 8) (withField f (left % 8) (fieldOf e (left % 8))) e)
+
+led-fields : (n left : ℕ) (e : Event) → led (fieldsText n left e) ≡ true
+unfolding fieldsText
+led-fields zero left e = refl
+led-fields (suc n) left e = either (λ l. led l ≡ true) (eqb left 0) refl refl
+
+-- one field, and the rest
+reads-field : (n left : ℕ) (f e : Event) (l : List ℕ) → Ranged e → 0 < left → 0 < left % 8 → left % 8 < 7 → led l ≡ true
+    → reads (at 1 left 1 f) (((32 ∷ fieldText e (left % 8)) ++ fieldsText n (left / 8) e) ++ l)
+    ≡ reads (at 1 (left / 8) 1 (withField f (left % 8) (fieldOf e (left % 8)))) (fieldsText n (left / 8) e ++ l)
+reads-field n left f e l r p z m h =
+    let x = written e r (left % 8) z m in
+    ap (reads (at 1 left 1 f)) (append-assoc (32 ∷ fieldText e (left % 8)) (fieldsText n (left / 8) e) l)
+    ∙ reads-led (at 1 left 1 f) (fieldText e (left % 8)) (fieldsText n (left / 8) e ++ l) (x .word)
+    (led-append (fieldsText n (left / 8) e) l (led-fields n (left / 8) e) h)
+    ∙ ap (λ (s : Reading). reads s (fieldsText n (left / 8) e ++ l))
+    (take-field left f (fieldText e (left % 8)) (fieldOf e (left % 8)) (x .some) p (x .says) (field-room e r (left % 8) z m))
+
+reads-fields : (n left : ℕ) (f e : Event) (l : List ℕ) → Ranged e → goodLeft n left ≡ true → led l ≡ true
+    → reads (at 1 left 1 f) (fieldsText n left e ++ l) ≡ reads (at 1 (leftOver n left) 1 (filled n left f e)) l
+unfolding fieldsText goodLeft leftOver filled
+reads-fields zero left f e l r g h = refl
+reads-fields (suc n) left f e l r g h = more (eqb left 0) refl g (λ k. reads-fields n (left / 8) (withField f (left % 8) (fieldOf e (left % 8))) e l r k h)
+  where
+    more : (t : Bool) → eqb left 0 ≡ t → cond t true (ltb 0 (left % 8) && (ltb (left % 8) 7 && goodLeft n (left / 8))) ≡ true
+        → (goodLeft n (left / 8) ≡ true
+        → reads (at 1 (left / 8) 1 (withField f (left % 8) (fieldOf e (left % 8)))) (fieldsText n (left / 8) e ++ l)
+        ≡ reads (at 1 (leftOver n (left / 8)) 1 (filled n (left / 8) (withField f (left % 8) (fieldOf e (left % 8))) e)) l)
+        → reads (at 1 left 1 f) (cond t [] ((32 ∷ fieldText e (left % 8)) ++ fieldsText n (left / 8) e) ++ l)
+        ≡ reads (at 1 (cond t left (leftOver n (left / 8))) 1 (cond t f (filled n (left / 8) (withField f (left % 8) (fieldOf e (left % 8))) e))) l
+    more true q k i = refl
+    more false q k i =
+        let a = and-eq-true-iff (ltb 0 (left % 8)) (ltb (left % 8) 7 && goodLeft n (left / 8)) .0 k in
+        let b = and-eq-true-iff (ltb (left % 8) 7) (goodLeft n (left / 8)) .0 (a .1) in
+        reads-field n left f e l r (omega (arith, eqb-false left 0 q)) (ltb-true 0 (left % 8) (a .0)) (ltb-true (left % 8) 7 (b .0)) h ∙ i (b .1)
+
+-- ---- the fields of a kind
+
+no-left : (k : ℕ) → k < 31 → leftOver 6 (fieldsOf k) ≡ 0
+unfolding leftOver fieldsOf fieldTable tab
+no-left = tab-at 31 (λ k. leftOver 6 (fieldsOf k)) (λ k. 0) refl
+
+good-left : (k : ℕ) → k < 31 → goodLeft 6 (fieldsOf k) ≡ true
+unfolding goodLeft fieldsOf fieldTable tab
+good-left = tab-at 31 (λ k. goodLeft 6 (fieldsOf k)) (λ k. true) refl
+
+-- the fields of kind k, the others 0
+chosen : ℕ → Event → Event
+chosen k e = record {
+  kind = k;
+  member = cond (has (fieldsOf k) 2) (e .member % 2 ^ 8) 0;
+  selector = cond (has (fieldsOf k) 3) (e .selector % 2 ^ 8) 0;
+  spare = cond (has (fieldsOf k) 4) (e .spare % 2 ^ 8) 0;
+  v = cond (has (fieldsOf k) 5) (e .v % 2 ^ 32) 0;
+  w = cond (has (fieldsOf k) 6) (e .w % 2 ^ 64) 0;
+}
+
+filled-chosen : (e : Event) (k : ℕ) → k < 30 → filled 6 (fieldsOf k) (call k 0 0) e ≡ chosen k e
+unfolding filled withField fieldOf chosen has fieldsOf fieldTable tab
+filled-chosen e = tab-at 30 (λ k. filled 6 (fieldsOf k) (call k 0 0) e) (λ k. chosen k e) refl
+
+filled-raw : (e : Event) → filled 6 (fieldsOf 30) (call 0 0 0) e
+    ≡ record {
+      kind = e .kind % 2 ^ 8;
+      member = e .member % 2 ^ 8;
+      selector = e .selector % 2 ^ 8;
+      spare = e .spare % 2 ^ 8;
+      v = e .v % 2 ^ 32;
+      w = e .w;
+    }
+unfolding filled withField fieldOf fieldsOf fieldTable
+filled-raw e = refl
+
+-- a field that is among them or 0
+picked : (t : Bool) (m n : ℕ) → n < m → (t || eqb n 0) ≡ true → cond t (n % m) 0 ≡ n
+picked true m n h u = mod-eq-of-lt h
+picked false m n h u = sym (eqb-true n 0 u)
+
+pub record Usual (e : Event) : Type 0 where
+  pub member : usual e 2 ≡ true
+  pub selector : usual e 3 ≡ true
+  pub spare : usual e 4 ≡ true
+  pub v : usual e 5 ≡ true
+  pub w : usual e 6 ≡ true
+
+chosen-same : (e : Event) → Ranged e → Usual e → chosen (e .kind) e ≡ e
+unfolding chosen usual fieldOf
+chosen-same e r u = λ i. record {
+  kind = e .kind;
+  member = picked (has (fieldsOf (e .kind)) 2) (2 ^ 8) (e .member) (r .member) (u .member) i;
+  selector = picked (has (fieldsOf (e .kind)) 3) (2 ^ 8) (e .selector) (r .selector) (u .selector) i;
+  spare = picked (has (fieldsOf (e .kind)) 4) (2 ^ 8) (e .spare) (r .spare) (u .spare) i;
+  v = picked (has (fieldsOf (e .kind)) 5) (2 ^ 32) (e .v) (r .v) (u .v) i;
+  w = picked (has (fieldsOf (e .kind)) 6) (2 ^ 64) (e .w) (r .w) (u .w) i;
+}
+
+raw-same : (e : Event) → Ranged e → filled 6 (fieldsOf 30) (call 0 0 0) e ≡ e
+raw-same e r = filled-raw e ∙ (λ i. record {
+  kind = mod-eq-of-lt (r .kind) i;
+  member = mod-eq-of-lt (r .member) i;
+  selector = mod-eq-of-lt (r .selector) i;
+  spare = mod-eq-of-lt (r .spare) i;
+  v = mod-eq-of-lt (r .v) i;
+  w = e .w;
+})
+
+-- ---- the line
+
+-- the name at place k and the fields, where they make up event e
+reads-name : (k : ℕ) (e : Event) (l : List ℕ) → 0 < k → k < 31 → Ranged e → filled 6 (fieldsOf k) (call (k % 30) 0 0) e ≡ e → led l ≡ true
+    → reads starting (callText k e ++ l) ≡ reads (ended true false e) l
+unfolding callText
+reads-name k e l z b r q h =
+    ap (reads starting) (append-assoc (name k) (fieldsText 6 (fieldsOf k) e) l)
+    ∙ reads-word starting (name k) (fieldsText 6 (fieldsOf k) e ++ l) (name-word k b) (led-append (fieldsText 6 (fieldsOf k) e) l (led-fields 6 (fieldsOf k) e) h)
+    ∙ ap (λ (s : Reading). reads s (fieldsText 6 (fieldsOf k) e ++ l)) (take-name k z b)
+    ∙ reads-fields 6 (fieldsOf k) (call (k % 30) 0 0) e l r (good-left k b) h
+    ∙ ap (λ (s : Reading). reads s l) (λ i. at 1 (no-left k b i) 1 (q i))
+
+pub reads-call : (e : Event) (l : List ℕ) → Ranged e → 0 < e .kind → e .kind < 30 → Usual e → led l ≡ true
+    → reads starting (callText (e .kind) e ++ l) ≡ reads (ended true false e) l
+reads-call e l r z b u h =
+    reads-name (e .kind) e l z (omega arith) r
+    (ap (λ (k : ℕ). filled 6 (fieldsOf (e .kind)) (call k 0 0) e) (mod-eq-of-lt b) ∙ filled-chosen e (e .kind) b ∙ chosen-same e r u)
+    h
+
+pub reads-raw : (e : Event) (l : List ℕ) → Ranged e → led l ≡ true → reads starting (callText 30 e ++ l) ≡ reads (ended true false e) l
+reads-raw e l r h = reads-name 30 e l (omega arith) (omega arith) r (raw-same e r) h
+
+-- ---- the bytes of the line
+
+kept-fields : (n left : ℕ) (e : Event) → Ranged e → goodLeft n left ≡ true → Kept (n * 21) (fieldsText n left e)
+unfolding fieldsText goodLeft
+kept-fields zero left e r g = kept-none 0
+kept-fields (suc n) left e r g = more (eqb left 0) g (kept-fields n (left / 8) e r)
+  where
+    more : (t : Bool) → cond t true (ltb 0 (left % 8) && (ltb (left % 8) 7 && goodLeft n (left / 8))) ≡ true
+        → (goodLeft n (left / 8) ≡ true → Kept (n * 21) (fieldsText n (left / 8) e))
+        → Kept (suc n * 21) (cond t [] ((32 ∷ fieldText e (left % 8)) ++ fieldsText n (left / 8) e))
+    more true k i = kept-none (suc n * 21)
+    more false k i =
+        let a = and-eq-true-iff (ltb 0 (left % 8)) (ltb (left % 8) 7 && goodLeft n (left / 8)) .0 k in
+        let b = and-eq-true-iff (ltb (left % 8) 7) (goodLeft n (left / 8)) .0 (a .1) in
+        let x = written e r (left % 8) (ltb-true 0 (left % 8) (a .0)) (ltb-true (left % 8) 7 (b .0)) in
+        let q : 20 + 1 + n * 21 ≡ suc n * 21 = omega arith in
+        rw (← q) (kept-append 21 (n * 21) (32 ∷ fieldText e (left % 8)) (fieldsText n (left / 8) e) (kept-led 20 (fieldText e (left % 8)) (x .word) (x .short)) (i (b .1)))
+
+pub kept-name : (k : ℕ) → k < 31 → Kept 25 (name k)
+kept-name k b = kept-word 25 (name k) (name-word k b) (name-length k b)
+
+pub kept-call : (k : ℕ) (e : Event) → k < 31 → Ranged e → Kept 151 (callText k e)
+unfolding callText
+kept-call k e b r = kept-append 25 126 (name k) (fieldsText 6 (fieldsOf k) e) (kept-name k b) (kept-fields 6 (fieldsOf k) e r (good-left k b))

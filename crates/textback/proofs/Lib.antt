@@ -1,0 +1,9 @@
+pub mod Figures
+pub mod Walk
+pub mod Takes
+pub mod Calls
+pub mod Steps
+pub mod Lines
+pub mod Whole
+pub mod Back
+pub mod InParts

@@ -1,0 +1,115 @@
+-- The line that is printed for an event so many times is read as that.
+-- Assumes nothing.
+use mathlib.Core.Path.{_≡_, refl, ap, sym, _∙_}
+use mathlib.Core.Bool.{Bool, true, false, cond, _&&_, and-eq-true-iff}
+use mathlib.Core.List.{List, [], _∷_, _++_, append-nil}
+use Prim.Native.Nat.{ℕ, _^_, _≤_, _<_}
+use native.Mathlib.Omega.{arith}
+use borrow.Author.Tests.{ltb-true, eqb-true, eqb-false}
+use lib.Dec.{eqb, ltb}
+use Rattle.words.proofs.Cases.{tested}
+use Rattle.calls.specs.Events.{lines}
+use Rattle.calls.specs.declared.Event.{Event}
+use Rattle.scan.specs.Parts.{parts, between, before, over}
+use Rattle.scan.proofs.Parts.{before-end}
+use Rattle.textin.specs.declared.Reading.{Reading}
+use Rattle.textin.specs.declared.Line.{Line}
+use Rattle.textin.specs.Readings.{starting, takeWord, finished, lineOf}
+use Rattle.textout.specs.Prints.{usual, plain, stepText, callText, eventText, timesText, runText}
+use Rattle.textback.proofs.Walk.{Quiet, Kept, kept-append, led, reads}
+use Rattle.textback.proofs.Takes.{ended, said, repeated, led-times, kept-times}
+use Rattle.textback.proofs.Calls.{Ranged, Usual, reads-call, reads-raw, kept-call}
+use Rattle.textback.proofs.Steps.{any-up, reads-step, kept-step}
+
+-- the text x is that of event e: it is read as e, whatever follows it
+record Says (e : Event) (x : List ℕ) : Type 0 where
+  pub fields : Bool
+  pub some : Bool
+  pub go : (l : List ℕ) → led l ≡ true → reads starting (x ++ l) ≡ reads (ended fields some e) l
+  pub kept : Kept 289 x
+
+-- ---- a plain event
+
+record Still (e : Event) : Type 0 where
+  pub whole : e ≡ lines (e .v) (e .w)
+  pub v : e .v < 2 ^ 18
+  pub w : e .w < 2 ^ 48
+
+still : (e : Event) → eqb (e .kind) 0 ≡ true → plain e ≡ true → Still e
+unfolding plain
+still e k p =
+    let t = rw k at p in
+    let d = and-eq-true-iff _ (ltb (e .w) (2 ^ 48)) .0 t in
+    let c = and-eq-true-iff _ (ltb (e .v) (2 ^ 18)) .0 (d .0) in
+    let b = and-eq-true-iff _ (eqb (e .spare) 0) .0 (c .0) in
+    let a = and-eq-true-iff (eqb (e .member) 0) (eqb (e .selector) 0) .0 (b .0) in
+    record {
+      whole = λ i. record {
+        kind = eqb-true (e .kind) 0 k i;
+        member = eqb-true (e .member) 0 (a .0) i;
+        selector = eqb-true (e .selector) 0 (a .1) i;
+        spare = eqb-true (e .spare) 0 (b .1) i;
+        v = e .v;
+        w = e .w;
+      };
+      v = ltb-true (e .v) (2 ^ 18) (c .1);
+      w = ltb-true (e .w) (2 ^ 48) (d .1);
+    }
+
+record Called (e : Event) : Type 0 where
+  pub kind : e .kind < 30
+  pub rest : Usual e
+
+called : (e : Event) → eqb (e .kind) 0 ≡ false → plain e ≡ true → Called e
+unfolding plain
+called e k p =
+    let t = rw k at p in
+    let d = and-eq-true-iff _ (usual e 6) .0 t in
+    let c = and-eq-true-iff _ (usual e 5) .0 (d .0) in
+    let b = and-eq-true-iff _ (usual e 4) .0 (c .0) in
+    let a = and-eq-true-iff _ (usual e 3) .0 (b .0) in
+    let z = and-eq-true-iff (ltb (e .kind) 30) (usual e 2) .0 (a .0) in
+    record {
+      kind = ltb-true (e .kind) 30 (z .0);
+      rest = record { member = z .1; selector = a .1; spare = b .1; v = c .1; w = d .1 };
+    }
+
+-- ---- any event
+
+kept-more : {l : List ℕ} → Kept 151 l → Kept 289 l
+kept-more k = let h = k .short in record { quiet = k .quiet; short = omega (arith, h) }
+
+says-event : (e : Event) → Ranged e → Says e (eventText e)
+unfolding eventText
+says-event e r = tested (Says e) (plain e) named (λ p. says-raw)
+  where
+    says-raw : Says e (callText 30 e)
+    says-raw = record { fields = true; some = false; go = λ l h. reads-raw e l r h; kept = kept-more (kept-call 30 e (omega arith) r) }
+
+    says-step : Still e → Says e (stepText e)
+    says-step s = record { fields = false; some = any-up (e .v) (e .w); go = λ l h. reads-step e l (s .whole) (s .v) (s .w) h; kept = kept-step e }
+
+    says-call : (e .kind ≡ 0 → ⊥) → Called e → Says e (callText (e .kind) e)
+    says-call n c =
+        let k = c .kind in
+        record { fields = true; some = false; go = λ l h. reads-call e l r (omega (arith, n)) k (c .rest) h; kept = kept-more (kept-call (e .kind) e (omega (arith, k)) r) }
+
+    named : plain e ≡ true → Says e (cond (eqb (e .kind) 0) (stepText e) (callText (e .kind) e))
+    named p = tested (Says e) (eqb (e .kind) 0) (λ k. says-step (still e k p)) (λ k. says-call (eqb-false (e .kind) 0 k) (called e k p))
+
+pub kept-run : (n : ℕ) (e : Event) → Ranged e → Kept 312 (runText n e)
+unfolding runText
+kept-run n e r = kept-append 289 23 (eventText e) (timesText n) (says-event e r .kept) (kept-times n)
+
+-- without a comment all of the line is read
+whole-line : (l : List ℕ) → Quiet l → lineOf l ≡ finished (reads starting l)
+unfolding lineOf reads
+whole-line l q =
+    ap (λ (x : List ℕ). finished (over takeWord starting (parts (between true) [] x)))
+    (ap (before 35) (sym (append-nil l)) ∙ q .comment [] ∙ ap (λ (x : List ℕ). l ++ x) (before-end 35) ∙ append-nil l)
+
+pub line-run : (n : ℕ) (e : Event) → Ranged e → 0 < n → n < 2 ^ 32 → lineOf (runText n e) ≡ said n e
+unfolding runText
+line-run n e r z h =
+    let s = says-event e r in
+    whole-line (runText n e) (kept-run n e r .quiet) ∙ ap finished (s .go (timesText n) (led-times n)) ∙ repeated (s .fields) (s .some) e n z h

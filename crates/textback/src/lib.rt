@@ -1,0 +1,1 @@
+// Theorem crate: what is printed for records is read as these records.

@@ -1,0 +1,3 @@
+pub mod Wrote
+pub mod Texts
+pub mod Runs
