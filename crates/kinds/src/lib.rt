@@ -62,37 +62,37 @@ const STARTS: [usize; 32] = [
 // The fields that follow each name, the first in the lowest octal digit: 1 kind, 2 member,
 // 3 selector, 4 spare, 5 V, 6 W.
 const FIELDS: [u32; 31] = [
-    0,
-    0o52,
-    0o532,
-    0o532,
-    0o52,
-    0o52,
-    0o2,
-    0o2,
-    0o2,
-    0o2,
-    0o2,
-    0o2,
-    0o2,
-    0o52,
-    0o52,
-    0o52,
-    0o52,
-    0o2,
-    0o52,
-    0o52,
-    0o52,
-    0o2,
-    0o5,
-    0o5,
-    0,
-    0o5,
-    0o5,
-    0,
-    0,
-    0,
-    0o654321,
+    0, // 0 step
+    0o52, // 1 mode_write
+    0o532, // 2 preload_write
+    0o532, // 3 compare_write
+    0o52, // 4 route_write
+    0o52, // 5 mask_write
+    0o2, // 6 start
+    0o2, // 7 halt
+    0o2, // 8 snapshot
+    0o2, // 9 soft_preload
+    0o2, // 10 count_read
+    0o2, // 11 snapshot_read
+    0o2, // 12 channel_status
+    0o52, // 13 source_write
+    0o52, // 14 pin_data_write
+    0o52, // 15 pin_safe_data_write
+    0o52, // 16 pin_safe_enable_write
+    0o2, // 17 pin_level_read
+    0o52, // 18 virtual_data_write
+    0o52, // 19 virtual_safe_data_write
+    0o52, // 20 virtual_safe_enable_write
+    0o2, // 21 virtual_data_read
+    0o5, // 22 control_write
+    0o5, // 23 swe_write
+    0, // 24 safemode_clear
+    0o5, // 25 watchdog_interval_write
+    0o5, // 26 watchdog_enable_write
+    0, // 27 watchdog_kick
+    0, // 28 timestamp_read
+    0, // 29 board_status
+    0o654321, // raw
 ];
 
 // The place of a word among the names.

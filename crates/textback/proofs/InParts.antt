@@ -69,9 +69,8 @@ in-parts r a b last whole =
     let long : length a ≡ 16 * (length a / 16) = omega arith in
     let both : length (a ++ b) / 16 ≡ length a / 16 + length b / 16 = rw (length-append a b) (omega arith) in
     let run = run-second a b (length a / 16) long r (length b / 16) in
-    let text = text-second a b (length a / 16) long r (length b / 16) in
-    (
+    let text = text-second a b (length a / 16) long r (length b / 16) in (
       rw (both, run, text, append-nil (textAfter r a (length a / 16)))
-      (append-assoc (textAfter r a (length a / 16)) (textAfter (runAfter r a (length a / 16)) b (length b / 16)) (cond last (runLine (runAfter (runAfter r a (length a / 16)) b (length b / 16))) [])),
+          (append-assoc (textAfter r a (length a / 16)) (textAfter (runAfter r a (length a / 16)) b (length b / 16)) (cond last (runLine (runAfter (runAfter r a (length a / 16)) b (length b / 16))) [])),
       rw both run,
     )

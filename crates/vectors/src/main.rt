@@ -7,15 +7,18 @@
 // result 0, else only the line of this place. The blocks are made one by one and not kept.
 // A refused output is looked at whole, an accepted one past its end; what was read is written
 // again and must give the file, and what was written is read again. Each record that was read is
-// decoded and encoded and must be the same. Each line is repeated with `ok`, or with what differs:
+// decoded and encoded and must be the same, and so must each block's records, printed as text and
+// read again. Each line is repeated with `ok`, or with what differs:
 // of a log the line's number, what was expected and what came.
 ghost use mathlib.Core.Path.{_≡_};
 ghost use Prim.Native.Nat.{_+_, _<_, _≤_};
 ghost use lib.ListN.{length};
 use board::Board;
+use calls::Event;
 use history::Transfer;
 use libc::STDIN_FILENO;
 use libc::STDOUT_FILENO;
+use textout::Run;
 
 // What an output is filled with before a test.
 const MARK: u8 = 0xa5;
@@ -37,8 +40,10 @@ struct State {
     result: u8,
 }
 
-// The size of all buffers.
+// The size of all buffers, and of a full block's records.
 const SIZE: usize = 65536;
+
+const AREA: usize = 496;
 
 // A number as a length that fits a buffer.
 fn size(n: u64) -> usize
@@ -86,38 +91,16 @@ fn common(a: &[u8], b: &[u8]) -> usize
     i
 }
 
-fn same(a: &[u8], b: &[u8]) -> bool {
-    if a.len() == b.len() {
-        common(a, b) == a.len()
-    } else {
-        false
-    }
-}
-
 // Reads the file of the given name and ending into buf, and answers its length; 0 where there is no
 // such file, which is told.
 fn load(name: &[u8], ending: &[u8], buf: &mut [u8]) -> usize
     requires { ⌜ length (now buf) ≡ 65536 ⌝ }
     ensures { λ r. ⌜ r ≤ length (now (buf .exit)) ⌝ }
 {
-    let mut path = [0u8; 256];
-    let n = name.len();
-    if n > 200 {
-        return 0;
-    }
-    if ending.len() > 50 {
-        return 0;
-    }
-    buffers::copy_to(name, &mut path, 0);
-    buffers::copy_to(ending, &mut path, n);
-    let end = n + ending.len();
-    let fd = os::open_read(&path[..end]);
-    if fd < 0 {
+    let got = streams::load(name, ending, buf);
+    if got.failed {
         io::write_all(STDOUT_FILENO, b" no file");
-        return 0;
     }
-    let got = streams::fill(fd, buf);
-    libc::close(fd);
     got.count
 }
 
@@ -240,7 +223,7 @@ fn is_place_line(place: u32, result: u8, log: &[u8]) -> bool {
     buffers::copy_to(b"block ", &mut line, 0);
     let at = text::put_entry(&mut line, 6, place as u64, b' ');
     let end = text::put_entry(&mut line, at, result as u64, b'\n');
-    same(&line[..end], log)
+    scan::same(&line[..end], log)
 }
 
 // The number of the line that place `at` is in, counted from 1.
@@ -289,7 +272,7 @@ fn show_line(text: &[u8], at: usize)
 
 // Compares a log with what is expected.
 fn compare(expected: &[u8], came: &[u8]) {
-    if same(expected, came) {
+    if scan::same(expected, came) {
         io::write_all(STDOUT_FILENO, b" ok\n");
         return;
     }
@@ -337,7 +320,7 @@ fn gives(t: Transfer, expected: &[u8], out: &[u8]) -> bool {
         return false;
     }
     if t.result == 0 {
-        same(expected, &out[..n])
+        scan::same(expected, &out[..n])
     } else {
         false
     }
@@ -362,7 +345,7 @@ fn is_recoded(bytes: &[u8]) -> bool
     let mut copy = [0u8; 16];
     buffers::copy_to(bytes, &mut copy, 0);
     let again = records::encode(records::decode(&copy));
-    same(bytes, &again)
+    scan::same(bytes, &again)
 }
 
 // Whether a history is of whole records, each the same after it is decoded and encoded.
@@ -376,6 +359,51 @@ fn recoded(h: &[u8]) -> bool {
         at = next;
     }
     at == h.len()
+}
+
+// Whether some records, printed as text and read again, are the same.
+fn is_reprinted(h: &[u8], text: &mut [u8]) -> bool {
+    let mut back = [0u8; 496];
+    let none = Run {
+        times: 0,
+        event: Event {
+            kind: 0,
+            member: 0,
+            selector: 0,
+            spare: 0,
+            v: 0,
+            w: 0,
+        },
+    };
+    let p = textout::print(none, h, true, text);
+    let n = p.written;
+    if n > text.len() {
+        return false;
+    }
+    let q = textin::parse(&text[..n], &mut back);
+    let w = q.written;
+    if w > 496 {
+        return false;
+    }
+    scan::same(h, &back[..w])
+}
+
+// Whether the records of a history are the same, printed as text and read again block by block.
+fn reprinted(h: &[u8], text: &mut [u8]) -> bool {
+    let mut at: usize = 0;
+    while h.len() - at > AREA {
+        let next = at + AREA;
+        if !is_reprinted(&h[at..next], text) {
+            return false;
+        }
+        at = next;
+    }
+    is_reprinted(&h[at..], text)
+}
+
+// Whether a history that was read from a file is the same on each way back.
+fn comes_back(h: &[u8], file: &[u8], out: &mut [u8]) -> bool {
+    recoded(h) & reprinted(h, out) & writes_as(h, file, out)
 }
 
 // `read NAME ROOM RESULT BYTES`.
@@ -399,8 +427,7 @@ fn test_read(name: &[u8], row: Row, file: &mut [u8], out: &mut [u8], back: &mut 
         verdict(row, t.result, w, kept);
         return;
     }
-    let whole = kept & recoded(&out[..w]);
-    verdict(row, 0, w, whole & writes_as(&out[..w], &file[..n], back));
+    verdict(row, 0, w, kept & comes_back(&out[..w], &file[..n], back));
 }
 
 // `write LENGTH ROOM RESULT BYTES`.

@@ -58,29 +58,20 @@ same-length-4 c = search needs
 returns-2 : tie.Need-returns-2
 returns-2 c = search needs
 
-slice-reshare-prefix-recoded : tie.Need-slice-reshare-prefix-recoded
-slice-reshare-prefix-recoded c = search needs
+slice-reshare-prefix-comes-back : tie.Need-slice-reshare-prefix-comes-back
+slice-reshare-prefix-comes-back c = search needs
 
-slice-aggregate-recoded : tie.Need-slice-aggregate-recoded
-slice-aggregate-recoded c = sym (length-take-le _ _ (omega arith))
+slice-aggregate-comes-back : tie.Need-slice-aggregate-comes-back
+slice-aggregate-comes-back c = sym (length-take-le _ _ (omega arith))
 
-recoded-requires : tie.Need-recoded-requires
-recoded-requires c κs = search needs
+slice-reshare-prefix-comes-back-2 : tie.Need-slice-reshare-prefix-comes-back-2
+slice-reshare-prefix-comes-back-2 c = search needs
 
-slice-reshare-prefix-writes-as : tie.Need-slice-reshare-prefix-writes-as
-slice-reshare-prefix-writes-as c = search needs
+slice-aggregate-comes-back-2 : tie.Need-slice-aggregate-comes-back-2
+slice-aggregate-comes-back-2 c = sym (length-take-le _ _ (omega arith))
 
-slice-aggregate-writes-as : tie.Need-slice-aggregate-writes-as
-slice-aggregate-writes-as c = sym (length-take-le _ _ (omega arith))
-
-slice-reshare-prefix-writes-as-2 : tie.Need-slice-reshare-prefix-writes-as-2
-slice-reshare-prefix-writes-as-2 c = search needs
-
-slice-aggregate-writes-as-2 : tie.Need-slice-aggregate-writes-as-2
-slice-aggregate-writes-as-2 c = sym (length-take-le _ _ (omega arith))
-
-writes-as-requires : tie.Need-writes-as-requires
-writes-as-requires c κs = search needs
+comes-back-requires : tie.Need-comes-back-requires
+comes-back-requires c κs = search needs
 
 verdict-requires-3 : tie.Need-verdict-requires-3
 verdict-requires-3 c κs = search needs
@@ -118,14 +109,11 @@ test-read-spec =
     same-length-3
     same-length-4
     returns-2
-    slice-reshare-prefix-recoded
-    slice-aggregate-recoded
-    recoded-requires
-    slice-reshare-prefix-writes-as
-    slice-aggregate-writes-as
-    slice-reshare-prefix-writes-as-2
-    slice-aggregate-writes-as-2
-    writes-as-requires
+    slice-reshare-prefix-comes-back
+    slice-aggregate-comes-back
+    slice-reshare-prefix-comes-back-2
+    slice-aggregate-comes-back-2
+    comes-back-requires
     verdict-requires-3
     same-length-5
     same-length-6
