@@ -47,14 +47,17 @@ put-set d at p n x e h =
     let before : at + length p ≤ length d = omega arith in
     set-put (put d at p) n x (simp length-put (omega arith)) ∙ put-put d at p (x ∷ []) n e room
 
--- four stores in a row
+-- three and four stores in a row
+pub put-three : (d : List ℕ) (at a b c : ℕ) → at + 3 ≤ length d → set (set (set d at a) (at + 1) b) (at + 2) c ≡ put d at (a ∷ b ∷ c ∷ [])
+put-three d at a b c h =
+    ap (λ (l : List ℕ). set (set l (at + 1) b) (at + 2) c) (set-put d at a (omega arith))
+    ∙ ap (λ (l : List ℕ). set l (at + 2) c) (put-set d at (a ∷ []) (at + 1) b refl (omega arith))
+    ∙ put-set d at (a ∷ b ∷ []) (at + 2) c refl (omega arith)
+
 pub put-four : (d : List ℕ) (at a b c e : ℕ) → at + 4 ≤ length d
     → set (set (set (set d at a) (at + 1) b) (at + 2) c) (at + 3) e ≡ put d at (a ∷ b ∷ c ∷ e ∷ [])
 put-four d at a b c e h =
-    ap (λ (l : List ℕ). set (set (set l (at + 1) b) (at + 2) c) (at + 3) e) (set-put d at a (omega arith))
-    ∙ ap (λ (l : List ℕ). set (set l (at + 2) c) (at + 3) e) (put-set d at (a ∷ []) (at + 1) b refl (omega arith))
-    ∙ ap (λ (l : List ℕ). set l (at + 3) e) (put-set d at (a ∷ b ∷ []) (at + 2) c refl (omega arith))
-    ∙ put-set d at (a ∷ b ∷ c ∷ []) (at + 3) e refl (omega arith)
+    ap (λ (l : List ℕ). set l (at + 3) e) (put-three d at a b c (omega arith)) ∙ put-set d at (a ∷ b ∷ c ∷ []) (at + 3) e refl (omega arith)
 
 -- a put of as many bytes as there are
 pub put-all : (d p : List ℕ) → length p ≡ length d → put d 0 p ≡ p

@@ -1,4 +1,3 @@
 pub mod Tables
 pub mod Row
 pub mod Names
-pub mod Stores

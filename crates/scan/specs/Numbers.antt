@@ -1,7 +1,7 @@
 -- Numbers as they are read: digits of a base, of 64 bits at most.
 -- Assumes nothing.
 use mathlib.Core.Bool.{true, false, cond, _&&_}
-use mathlib.Core.List.{List, [], _∷_}
+use mathlib.Core.List.{List}
 use Prim.Native.Nat.{ℕ, _+_, _-_, _*_, _^_}
 use lib.Dec.{eqb, ltb}
 use lib.ListN.{length, take, drop}

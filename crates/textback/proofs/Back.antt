@@ -1,20 +1,18 @@
 -- The text of a history is read as that history.
 -- Assumes nothing.
 use mathlib.Core.Path.{_≡_, refl, ap, sym, _∙_}
-use mathlib.Core.Bool.{Bool, true, false, cond}
-use mathlib.Core.List.{List, [], _∷_, _++_, append-nil}
-use Prim.Native.Nat.{ℕ, _+_, _*_, _/_, _%_, _^_, _≤_, _<_}
+use mathlib.Core.Bool.{true}
+use mathlib.Core.List.{List, [], append-nil}
+use Prim.Native.Nat.{ℕ, _+_, _*_, _/_, _%_, _^_, _≤_}
 use native.Mathlib.Omega.{arith}
 use borrow.Author.Tests.{le-ltb}
-use lib.Dec.{ltb}
-use lib.ListN.{length, take, getD}
+use lib.ListN.{length, take}
 use lib.Seq.{take-all}
-use Rattle.buffers.specs.Pieces.{put, piece, joined}
+use Rattle.buffers.specs.Pieces.{piece, joined}
 use Rattle.buffers.proofs.Joined.{joined-piece}
 use Rattle.buffers.proofs.Put.{take-put}
 use Rattle.history.specs.Claim.{WholeRecords}
-use Rattle.scan.specs.Parts.{parts, between, before, over}
-use Rattle.textin.specs.declared.Text.{Text}
+use Rattle.scan.specs.Parts.{parts, before, over}
 use Rattle.textin.specs.declared.Parsed.{Parsed}
 use Rattle.textin.specs.Readings.{takeWord, finished, whole, lineOf}
 use Rattle.textin.specs.Texts.{linesOf, wantedOf, addLine, noText, checked, addRecords, recordsIn, answered, output as recordsOut}

@@ -6,21 +6,21 @@ use mathlib.Core.List.{List, [], _∷_, _++_, append-assoc}
 use Prim.Native.Nat.{ℕ, zero, suc, _+_, _*_, _/_, _%_, _^_, _≤_, _<_}
 use native.Mathlib.Nat.{mod-eq-of-lt}
 use native.Mathlib.Omega.{arith}
-use borrow.Author.Tests.{lt-ltb, ltb-true, eqb-true, eqb-false, eq-eqb, ne-eqb}
+use borrow.Author.Tests.{ltb-true, eqb-true, eqb-false}
 use lib.Dec.{eqb, ltb}
 use lib.ListN.{length}
 use Rattle.words.specs.Table.{tab}
 use Rattle.words.proofs.Cases.{tested, either}
 use Rattle.calls.specs.Events.{call}
 use Rattle.calls.specs.declared.Event.{Event}
-use Rattle.text.specs.Decimal.{decimal, hexadecimal}
+use Rattle.text.specs.Decimal.{decimal}
 use Rattle.text.proofs.Decimal.{length-decimal}
 use Rattle.scan.specs.Numbers.{number}
 use Rattle.kinds.specs.Names.{name, fieldsOf, fieldTable}
 use Rattle.kinds.proofs.Names.{Word, name-word, name-length}
 use Rattle.kinds.proofs.Tables.{tab-at}
 use Rattle.textin.specs.declared.Reading.{Reading}
-use Rattle.textin.specs.Readings.{withField, room, at, starting, takeWord}
+use Rattle.textin.specs.Readings.{withField, room, at, starting}
 use Rattle.textout.specs.Prints.{fieldOf, fieldText, fieldsText, has, usual, callText}
 use Rattle.textback.proofs.Figures.{read, eight, figures-decimal, some-decimal, read-decimal, figures-eight, some-eight, read-eight, length-eight}
 use Rattle.textback.proofs.Walk.{word-figures, Kept, kept-none, kept-append, kept-word, kept-led, led, led-append, reads, reads-word, reads-led}

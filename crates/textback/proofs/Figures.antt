@@ -1,6 +1,6 @@
 -- Numbers that are printed are read again.
 -- Assumes nothing.
-use mathlib.Core.Path.{_≡_, refl, ap, sym, _∙_}
+use mathlib.Core.Path.{_≡_, refl, ap, _∙_}
 use mathlib.Core.Bool.{true, false}
 use mathlib.Core.List.{List, [], _∷_, _++_}
 use Prim.Native.Nat.{ℕ, zero, suc, _+_, _-_, _*_, _/_, _%_, _^_, _≤_, _<_}
@@ -13,7 +13,7 @@ use Rattle.text.specs.Decimal.{digits, decimal, digit, hexadecimal}
 use Rattle.text.proofs.Decimal.{length-hexadecimal}
 use Rattle.scan.specs.Bytes.{ascii, same}
 use Rattle.scan.specs.Parts.{over}
-use Rattle.scan.specs.Numbers.{worth, extended, figure, number}
+use Rattle.scan.specs.Numbers.{worth, extended, number}
 use Rattle.scan.specs.declared.Amount.{Amount}
 use Rattle.scan.proofs.Bytes.{same-not, same-refl}
 use Rattle.scan.proofs.Parts.{over-append}

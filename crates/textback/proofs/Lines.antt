@@ -1,9 +1,9 @@
 -- The line that is printed for an event so many times is read as that.
 -- Assumes nothing.
-use mathlib.Core.Path.{_≡_, refl, ap, sym, _∙_}
-use mathlib.Core.Bool.{Bool, true, false, cond, _&&_, and-eq-true-iff}
-use mathlib.Core.List.{List, [], _∷_, _++_, append-nil}
-use Prim.Native.Nat.{ℕ, _^_, _≤_, _<_}
+use mathlib.Core.Path.{_≡_, ap, sym, _∙_}
+use mathlib.Core.Bool.{Bool, true, false, cond, and-eq-true-iff}
+use mathlib.Core.List.{List, [], _++_, append-nil}
+use Prim.Native.Nat.{ℕ, _^_, _<_}
 use native.Mathlib.Omega.{arith}
 use borrow.Author.Tests.{ltb-true, eqb-true, eqb-false}
 use lib.Dec.{eqb, ltb}
@@ -12,10 +12,9 @@ use Rattle.calls.specs.Events.{lines}
 use Rattle.calls.specs.declared.Event.{Event}
 use Rattle.scan.specs.Parts.{parts, between, before, over}
 use Rattle.scan.proofs.Parts.{before-end}
-use Rattle.textin.specs.declared.Reading.{Reading}
-use Rattle.textin.specs.declared.Line.{Line}
 use Rattle.textin.specs.Readings.{starting, takeWord, finished, lineOf}
 use Rattle.textout.specs.Prints.{usual, plain, stepText, callText, eventText, timesText, runText}
+use Rattle.textout.proofs.Texts.{plain-named}
 use Rattle.textback.proofs.Walk.{Quiet, Kept, kept-append, led, reads}
 use Rattle.textback.proofs.Takes.{ended, said, repeated, led-times, kept-times}
 use Rattle.textback.proofs.Calls.{Ranged, Usual, reads-call, reads-raw, kept-call}
@@ -56,11 +55,7 @@ still e k p =
       w = ltb-true (e .w) (2 ^ 48) (d .1);
     }
 
-record Called (e : Event) : Type 0 where
-  pub kind : e .kind < 30
-  pub rest : Usual e
-
-called : (e : Event) → eqb (e .kind) 0 ≡ false → plain e ≡ true → Called e
+called : (e : Event) → eqb (e .kind) 0 ≡ false → plain e ≡ true → Usual e
 unfolding plain
 called e k p =
     let t = rw k at p in
@@ -68,11 +63,7 @@ called e k p =
     let c = and-eq-true-iff _ (usual e 5) .0 (d .0) in
     let b = and-eq-true-iff _ (usual e 4) .0 (c .0) in
     let a = and-eq-true-iff _ (usual e 3) .0 (b .0) in
-    let z = and-eq-true-iff (ltb (e .kind) 30) (usual e 2) .0 (a .0) in
-    record {
-      kind = ltb-true (e .kind) 30 (z .0);
-      rest = record { member = z .1; selector = a .1; spare = b .1; v = c .1; w = d .1 };
-    }
+    record { member = and-eq-true-iff (ltb (e .kind) 30) (usual e 2) .0 (a .0) .1; selector = a .1; spare = b .1; v = c .1; w = d .1 }
 
 -- ---- any event
 
@@ -89,13 +80,12 @@ says-event e r = tested (Says e) (plain e) named (λ p. says-raw)
     says-step : Still e → Says e (stepText e)
     says-step s = record { fields = false; some = any-up (e .v) (e .w); go = λ l h. reads-step e l (s .whole) (s .v) (s .w) h; kept = kept-step e }
 
-    says-call : (e .kind ≡ 0 → ⊥) → Called e → Says e (callText (e .kind) e)
-    says-call n c =
-        let k = c .kind in
-        record { fields = true; some = false; go = λ l h. reads-call e l r (omega (arith, n)) k (c .rest) h; kept = kept-more (kept-call (e .kind) e (omega (arith, k)) r) }
+    says-call : (e .kind ≡ 0 → ⊥) → e .kind < 30 → Usual e → Says e (callText (e .kind) e)
+    says-call n k u =
+        record { fields = true; some = false; go = λ l h. reads-call e l r (omega (arith, n)) k u h; kept = kept-more (kept-call (e .kind) e (omega (arith, k)) r) }
 
     named : plain e ≡ true → Says e (cond (eqb (e .kind) 0) (stepText e) (callText (e .kind) e))
-    named p = tested (Says e) (eqb (e .kind) 0) (λ k. says-step (still e k p)) (λ k. says-call (eqb-false (e .kind) 0 k) (called e k p))
+    named p = tested (Says e) (eqb (e .kind) 0) (λ k. says-step (still e k p)) (λ k. let n = eqb-false (e .kind) 0 k in says-call n (plain-named e p n) (called e k p))
 
 pub kept-run : (n : ℕ) (e : Event) → Ranged e → Kept 312 (runText n e)
 unfolding runText

@@ -3,7 +3,7 @@
 use mathlib.Core.Path.{_≡_, refl, ap, sym, _∙_}
 use mathlib.Core.Bool.{Bool, true, false, cond, _&&_}
 use mathlib.Core.List.{List, [], _∷_, _++_, append-assoc}
-use Prim.Native.Nat.{ℕ, zero, suc, _%_, _^_, _≤_, _<_}
+use Prim.Native.Nat.{ℕ, zero, suc, _^_, _≤_, _<_}
 use native.Mathlib.Nat.{mod-eq-of-lt, zero-mod}
 use native.Mathlib.Omega.{arith}
 use borrow.Author.Tests.{lt-ltb, le-ltb, eq-eqb, ne-eqb}
@@ -14,14 +14,13 @@ use Rattle.words.proofs.BitLaws.{bit-word, bit-none, word-ext, word-of}
 use Rattle.words.proofs.Cases.{either}
 use Rattle.buffers.specs.Pieces.{joined}
 use Rattle.buffers.proofs.Joined.{split}
-use Rattle.calls.specs.Events.{call, lines}
+use Rattle.calls.specs.Events.{lines}
 use Rattle.calls.specs.declared.Event.{Event}
 use Rattle.scan.specs.Numbers.{number}
 use Rattle.kinds.specs.Names.{name, inputOf, inputName, pinName}
-use Rattle.kinds.specs.declared.Input.{Input}
 use Rattle.kinds.proofs.Names.{Word, name-word, input-named, pin-named, input-no-number, pin-no-number, input-word, pin-word, input-length, pin-length, pin-some}
 use Rattle.textin.specs.declared.Reading.{Reading}
-use Rattle.textin.specs.Readings.{raised, at, starting, takeWord}
+use Rattle.textin.specs.Readings.{raised, starting}
 use Rattle.textout.specs.Prints.{inputText, pinText, stepText}
 use Rattle.textback.proofs.Walk.{Kept, kept-none, kept-append, kept-led, kept-joined, led, led-append, led-joined, reads, reads-word, reads-led}
 use Rattle.textback.proofs.Takes.{take-step, take-input, behind, ended}

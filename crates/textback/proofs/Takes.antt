@@ -1,13 +1,13 @@
 -- What each printed word does to a line that is read.
 -- Assumes nothing.
-use mathlib.Core.Path.{_≡_, refl, ap, sym, _∙_}
+use mathlib.Core.Path.{_≡_, refl, ap, _∙_}
 use mathlib.Core.Bool.{Bool, true, false, cond}
 use mathlib.Core.List.{List, [], _∷_, _++_}
-use Prim.Native.Nat.{ℕ, zero, suc, _+_, _/_, _%_, _^_, _≤_, _<_}
+use Prim.Native.Nat.{ℕ, zero, suc, _+_, _/_, _%_, _^_, _<_}
 use native.Mathlib.Omega.{arith}
-use borrow.Author.Tests.{lt-ltb, le-ltb, eq-eqb, ne-eqb}
-use lib.Dec.{eqb, ltb}
-use lib.ListN.{length, getD}
+use borrow.Author.Tests.{lt-ltb, ne-eqb}
+use lib.Dec.{eqb}
+use lib.ListN.{length}
 use Rattle.calls.specs.Events.{call}
 use Rattle.calls.specs.declared.Event.{Event}
 use Rattle.words.specs.Table.{tab}
@@ -16,7 +16,7 @@ use Rattle.words.proofs.Cases.{either}
 use Rattle.scan.specs.Bytes.{ascii, same}
 use Rattle.scan.specs.Parts.{between, over}
 use Rattle.scan.specs.Numbers.{worth, extended, figure, number}
-use Rattle.kinds.specs.Names.{name, kindOf, fieldsOf, letter, inputAt, inputOf}
+use Rattle.kinds.specs.Names.{name, fieldsOf, inputOf}
 use Rattle.kinds.specs.declared.Input.{Input}
 use Rattle.kinds.proofs.Names.{Word, kind-named, name-some}
 use Rattle.text.specs.Decimal.{decimal}

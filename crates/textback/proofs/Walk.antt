@@ -1,15 +1,14 @@
 -- How printed bytes are read: words with a space before each, in a line without comment.
 -- Assumes nothing.
 use mathlib.Core.Path.{_≡_, refl, ap, sym, _∙_}
-use mathlib.Core.Bool.{Bool, true, false, cond}
+use mathlib.Core.Bool.{Bool, true, false}
 use mathlib.Core.List.{List, [], _∷_, _++_, append-assoc, append-nil}
 use Prim.Native.Nat.{ℕ, zero, suc, _+_, _*_, _≤_, _<_}
 use native.Mathlib.Nat.{suc-mul}
 use native.Mathlib.Omega.{arith}
-use borrow.Author.Tests.{lt-ltb, le-ltb, eq-eqb, ne-eqb, ltb-false, eqb-true}
-use lib.Dec.{eqb, ltb}
+use borrow.Author.Tests.{le-ltb, ne-eqb, ltb-false, eqb-true}
+use lib.Dec.{eqb}
 use lib.ListN.{length, getD, length-append}
-use Rattle.words.proofs.Cases.{either}
 use Rattle.buffers.specs.Pieces.{joined}
 use Rattle.scan.specs.Parts.{parts, between, before, over}
 use Rattle.scan.proofs.Parts.{parts-run, parts-byte, parts-cut, parts-end, before-byte}

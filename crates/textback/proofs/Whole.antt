@@ -1,18 +1,16 @@
 -- The text that is printed for records is read as these records.
 -- Assumes nothing.
 use mathlib.Core.Path.{_≡_, refl, ap, sym, subst, _∙_}
-use mathlib.Core.Bool.{Bool, true, false, cond, not, _&&_, and-eq-true-iff}
+use mathlib.Core.Bool.{Bool, true, false, not, and-eq-true-iff, _&&_}
 use mathlib.Core.List.{List, [], _∷_, _++_, append-assoc, append-nil}
-use Prim.Native.Nat.{ℕ, zero, suc, _+_, _-_, _*_, _/_, _%_, _^_, _≤_, _<_}
+use Prim.Native.Nat.{ℕ, zero, suc, _+_, _-_, _*_, _%_, _^_, _≤_, _<_}
 use native.Mathlib.Nat.{add-zero}
 use native.Mathlib.Omega.{arith}
-use borrow.Author.Tests.{lt-ltb, le-ltb, eq-eqb, ne-eqb, ltb-true, eqb-true}
+use borrow.Author.Tests.{le-ltb, eq-eqb, ne-eqb, eqb-true}
 use lib.Dec.{eqb, ltb}
-use lib.ListN.{length, getD, take, drop, length-take, length-drop}
-use lib.Seq.{take-all}
-use Rattle.words.proofs.Cases.{tested}
+use lib.ListN.{length, getD, length-take, length-drop}
 use Rattle.buffers.specs.Pieces.{piece, joined}
-use Rattle.buffers.proofs.Joined.{joined-piece, joined-more}
+use Rattle.buffers.proofs.Joined.{joined-more}
 use Rattle.buffers.proofs.Little.{part-bytes, field-small}
 use Rattle.calls.specs.declared.Event.{Event}
 use Rattle.records.specs.Records.{recordOf, eventOf}
@@ -21,10 +19,10 @@ use Rattle.scan.specs.Parts.{parts, between, over}
 use Rattle.scan.proofs.Parts.{parts-cut}
 use Rattle.textin.specs.declared.Text.{Text}
 use Rattle.textout.specs.declared.Run.{Run}
-use Rattle.textin.specs.Readings.{lineOf}
-use Rattle.textin.specs.Texts.{linesOf, wantedOf, wantedIn, addLine, noText, checked, addRecords, recordsIn}
+use Rattle.textin.specs.Texts.{linesOf, wantedOf, wantedIn, addLine, noText, addRecords}
 use Rattle.textout.specs.Prints.{runText, runLine, sameEvent, goesOn, nextRun, endedRun, noRun, eventIn, runAfter, textAfter, textOf}
-use Rattle.textback.proofs.Takes.{said}
+use Rattle.textin.proofs.Repeats.{repeated}
+use Rattle.textout.proofs.Runs.{goes-below}
 use Rattle.textback.proofs.Calls.{Ranged}
 use Rattle.textback.proofs.Lines.{kept-run, line-run}
 
@@ -33,10 +31,6 @@ use Rattle.textback.proofs.Lines.{kept-run, line-run}
 -- a good text so far
 abbrev good : ℕ → ℕ → Text
 good lines count = record { lines = lines; wanted = 0; count = count }
-
--- the records of an event n times
-abbrev copies : ℕ → Event → List ℕ
-copies n e = joined n (λ j. recordOf e)
 
 -- whole lines that say so many events, with these records, whatever follows them
 pub record Reads (text : List ℕ) (count : ℕ) (h : List ℕ) : Type 0 where
@@ -71,12 +65,12 @@ module _ (r : Run) (e : Ranged (r .event)) (z : 0 < r .times) (b : r .times < 2 
   unfolding addLine
   add-line lines count h = rw (the-wanted count h, line-run (r .times) (r .event) e z b)
 
-  add-records : (h : List ℕ) → addRecords h (runText (r .times) (r .event)) ≡ h ++ copies (r .times) (r .event)
+  add-records : (h : List ℕ) → addRecords h (runText (r .times) (r .event)) ≡ h ++ repeated (r .times) (r .event)
   unfolding addRecords
   add-records h = rw (line-run (r .times) (r .event) e z b)
 
   line-more : (text : List ℕ) (count : ℕ) (h : List ℕ) → count + r .times ≤ 2031585 → Reads text count h
-      → Reads (text ++ runLine r) (count + r .times) (h ++ copies (r .times) (r .event))
+      → Reads (text ++ runLine r) (count + r .times) (h ++ repeated (r .times) (r .event))
   unfolding over
   line-more text count h m t = record {
     lines = (t .lines + 1) % 2 ^ 64;
@@ -98,11 +92,11 @@ no-line r q = rw (eq-eqb (r .times) 0 q)
 
 -- the line of a run, or nothing where it has no times
 run-more : (r : Run) (text : List ℕ) (count : ℕ) (h : List ℕ) → Ranged (r .event) → r .times < 2 ^ 32 → count + r .times ≤ 2031585 → Reads text count h
-    → Reads (text ++ runLine r) (count + r .times) (h ++ copies (r .times) (r .event))
+    → Reads (text ++ runLine r) (count + r .times) (h ++ repeated (r .times) (r .event))
 unfolding joined
 run-more r text count h e b m t = by (r .times) refl
   where
-    by : (n : ℕ) → r .times ≡ n → Reads (text ++ runLine r) (count + r .times) (h ++ copies (r .times) (r .event))
+    by : (n : ℕ) → r .times ≡ n → Reads (text ++ runLine r) (count + r .times) (h ++ repeated (r .times) (r .event))
     by zero q = rw (no-line r q, q, append-nil text, add-zero count, append-nil h) t
     by (suc n) q = line-more r e (omega (arith, q)) b text count h m t
 
@@ -125,16 +119,11 @@ same-event a b t =
       w = eqb-true (a .w) (b .w) (w .1) i;
     }
 
-record Going (r : Run) (e : Event) : Type 0 where
-  pub same : r .event ≡ e
-  pub below : r .times < 2 ^ 32 - 1
-
-going : (r : Run) (e : Event) → goesOn r e ≡ true → Going r e
+going-same : (r : Run) (e : Event) → goesOn r e ≡ true → r .event ≡ e
 unfolding goesOn
-going r e t =
-    let u = and-eq-true-iff _ (ltb (r .times) (2 ^ 32 - 1)) .0 t in
-    let v = and-eq-true-iff (sameEvent (r .event) e) (not (eqb (r .times) 0)) .0 (u .0) in
-    record { same = same-event (r .event) e (v .0); below = ltb-true (r .times) (2 ^ 32 - 1) (u .1) }
+going-same r e t =
+    let u = and-eq-true-iff (sameEvent (r .event) e && not (eqb (r .times) 0)) (ltb (r .times) (2 ^ 32 - 1)) .0 t in
+    same-event (r .event) e (and-eq-true-iff (sameEvent (r .event) e) (not (eqb (r .times) 0)) .0 (u .0) .0)
 
 -- what one event more prints and leaves
 module _ (h : List ℕ) (n : ℕ) where
@@ -178,7 +167,7 @@ module _ (h : List ℕ) (bytes : (j : ℕ) → getD h j 0 < 256) where
     pub before : List ℕ
     pub reads : Reads (textAfter noRun h n) count before
     pub counted : count + runAfter noRun h n .times ≡ n
-    pub whole : before ++ copies (runAfter noRun h n .times) (runAfter noRun h n .event) ≡ joined n (piece 16 h)
+    pub whole : before ++ repeated (runAfter noRun h n .times) (runAfter noRun h n .event) ≡ joined n (piece 16 h)
     pub few : runAfter noRun h n .times < 2 ^ 32
     pub event : Ranged (runAfter noRun h n .event)
 
@@ -196,7 +185,7 @@ module _ (h : List ℕ) (bytes : (j : ℕ) → getD h j 0 < 256) where
 
   -- what the next event leaves
   after-of : (n : ℕ) (text : List ℕ) (r : Run) → textAfter noRun h n ≡ text → runAfter noRun h n ≡ r → (count : ℕ) (before : List ℕ) → Reads text count before
-      → count + r .times ≡ n → before ++ copies (r .times) (r .event) ≡ joined n (piece 16 h) → r .times < 2 ^ 32 → Ranged (r .event) → After n
+      → count + r .times ≡ n → before ++ repeated (r .times) (r .event) ≡ joined n (piece 16 h) → r .times < 2 ^ 32 → Ranged (r .event) → After n
   after-of n text r p q count before reads counted whole few event = record {
     count = count;
     before = before;
@@ -218,14 +207,13 @@ module _ (h : List ℕ) (bytes : (j : ℕ) → getD h j 0 < 256) where
     goes : goesOn run e ≡ true → After (suc n)
     unfolding joined
     goes t =
-        let g = going run e t in
-        let few = g .below in
+        let few = goes-below run e t in
         let c = a .counted in
         after-of (suc n) (textAfter noRun h n) (record { times = run .times + 1; event = e }) (goes-text h n t) (goes-run h n t) (a .count) (a .before) (a .reads)
         (omega (arith, c))
         (ap (λ (x : List ℕ). a .before ++ x) (joined-more (run .times) (λ j. recordOf e))
-        ∙ sym (append-assoc (a .before) (copies (run .times) e) (recordOf e))
-        ∙ ap (λ (x : List ℕ). x ++ recordOf e) (ap (λ (x : Event). a .before ++ copies (run .times) x) (sym (g .same)) ∙ a .whole)
+        ∙ sym (append-assoc (a .before) (repeated (run .times) e) (recordOf e))
+        ∙ ap (λ (x : List ℕ). x ++ recordOf e) (ap (λ (x : Event). a .before ++ repeated (run .times) x) (sym (going-same run e t)) ∙ a .whole)
         ∙ ap (λ (x : List ℕ). joined n (piece 16 h) ++ x) (record-in n m))
         (omega (arith, few))
         (ranged n)
@@ -236,7 +224,7 @@ module _ (h : List ℕ) (bytes : (j : ℕ) → getD h j 0 < 256) where
     ends t =
         let c = a .counted in
         after-of (suc n) (textAfter noRun h n ++ runLine run) (record { times = 1; event = e }) (ends-text h n t) (ends-run h n t) (a .count + run .times)
-        (a .before ++ copies (run .times) (run .event))
+        (a .before ++ repeated (run .times) (run .event))
         (run-more run (textAfter noRun h n) (a .count) (a .before) (a .event) (a .few) (omega (arith, c)) (a .reads))
         (omega (arith, c))
         (ap (λ (x : List ℕ). x ++ recordOf e) (a .whole) ∙ ap (λ (x : List ℕ). joined n (piece 16 h) ++ x) (record-in n m))

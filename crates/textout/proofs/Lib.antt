@@ -1,3 +1,2 @@
-pub mod Wrote
 pub mod Texts
 pub mod Runs

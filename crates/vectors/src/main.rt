@@ -31,6 +31,12 @@ struct Row {
     bytes: u64,
 }
 
+// A number in a row, and the place behind it.
+struct Number {
+    value: u64,
+    next: usize,
+}
+
 // The board after the sound places, how many these are, the length of the log, and the result of
 // the last place.
 struct State {
@@ -265,9 +271,10 @@ fn show_line(text: &[u8], at: usize)
         io::write_all(STDOUT_FILENO, b"    nothing\n");
         return;
     }
-    let to = tables::line_end(text, from);
+    let to = scan::part_end(text, from, false);
     io::write_all(STDOUT_FILENO, b"    ");
     io::write_all(STDOUT_FILENO, &text[from..to]);
+    io::write_all(STDOUT_FILENO, b"\n");
 }
 
 // Compares a log with what is expected.
@@ -470,14 +477,31 @@ fn test_long(n: usize, row: Row, file: &mut [u8], out: &mut [u8])
     verdict(row, s.result, s.place as usize, sound);
 }
 
+// The number behind the separator at `at`, 0 where there is none, and the place behind it.
+fn number_at(line: &[u8], at: usize) -> Number
+    requires { ⌜ at ≤ length (now line) ⌝ }
+    ensures { λ r. ⌜ r .next ≤ length (now (line .entry)) ⌝ }
+{
+    if at == line.len() {
+        return Number { value: 0, next: at };
+    }
+    let from = at + 1;
+    let to = scan::part_end(line, from, true);
+    let n = scan::number(&line[from..to]);
+    Number {
+        value: n.value,
+        next: to,
+    }
+}
+
 // Room, result and bytes of the row, from place `at` on.
 fn row_at(text: &[u8], at: usize) -> Row
     requires { ⌜ at ≤ length (now text) ⌝ }
     ensures { λ r. ⌜ r .room ≤ 65536 ⌝ }
 {
-    let room = tables::number_at(text, at);
-    let result = tables::number_at(text, room.next);
-    let bytes = tables::number_at(text, result.next);
+    let room = number_at(text, at);
+    let result = number_at(text, room.next);
+    let bytes = number_at(text, result.next);
     Row {
         room: size(room.value),
         result: result.value,
@@ -492,13 +516,13 @@ fn test(line: &[u8], file: &mut [u8], out: &mut [u8], back: &mut [u8])
     requires { ⌜ length (now back) ≡ 65536 ⌝ }
 {
     io::write_all(STDOUT_FILENO, line);
-    let w = tables::word_end(line, 0);
+    let w = scan::part_end(line, 0, true);
     if w >= line.len() {
         io::write_all(STDOUT_FILENO, b" no test\n");
         return;
     }
     let from = w + 1;
-    let to = tables::word_end(line, from);
+    let to = scan::part_end(line, from, true);
     let b = line[0];
     if (b == b'l') & (w == 3) {
         test_log(&line[from..to], file, back, out);
@@ -509,7 +533,7 @@ fn test(line: &[u8], file: &mut [u8], out: &mut [u8], back: &mut [u8])
         test_read(&line[from..to], row, file, out, back);
         return;
     }
-    let n = tables::number_at(line, w);
+    let n = number_at(line, w);
     if b == b'l' {
         test_long(size(n.value), row, file, out);
         return;
@@ -525,10 +549,9 @@ fn run(table: &[u8], file: &mut [u8], out: &mut [u8], back: &mut [u8])
 {
     let mut at: usize = 0;
     while at < table.len() {
-        let next = tables::line_end(table, at);
-        let end = next - 1;
-        test(&table[at..end], file, out, back);
-        at = next;
+        let to = scan::part_end(table, at, false);
+        test(&table[at..to], file, out, back);
+        at = to + 1;
     }
 }
 

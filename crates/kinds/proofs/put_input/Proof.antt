@@ -9,7 +9,7 @@ use lib.Dec.{eqb}
 use lib.ListN.{length-set}
 use borrow.Author.Tests.{eq-eqb, ne-eqb}
 use Rattle.kinds.specs.Names.{inputName}
-use Rattle.kinds.proofs.Stores.{put-three}
+use Rattle.buffers.proofs.Put.{put-three}
 use borrow.Author.Needs.{needs}
 use Rattle.kinds.proofs.put_input.Statement.{statement}
 use Rattle.kinds.proofs.put_input.Tie as tie

@@ -6,7 +6,7 @@ use lib.ListN.{length-set}
 use borrow.Author.Tests.{lt-ltb, le-ltb}
 use Rattle.buffers.proofs.Put.{put-four}
 use Rattle.kinds.specs.Names.{pinName}
-use Rattle.kinds.proofs.Stores.{put-three}
+use Rattle.buffers.proofs.Put.{put-three}
 use borrow.Author.Needs.{needs}
 use Rattle.kinds.proofs.put_pin.Statement.{statement}
 use Rattle.kinds.proofs.put_pin.Tie as tie

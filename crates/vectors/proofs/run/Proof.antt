@@ -1,7 +1,7 @@
 -- `vectors::run` meets its contract.
 -- Assumes nothing.
 use mathlib.Core.Path.{_≡_}
-use Prim.Native.Nat.{_-_, _≤_}
+use Prim.Native.Nat.{_+_, _-_, _≤_}
 use lib.ListN.{length}
 use borrow.Author.Needs.{needs}
 use Rattle.vectors.proofs.run.Statement.{statement}
@@ -9,19 +9,16 @@ use Rattle.vectors.proofs.run.Tie as tie
 
 abbrev Inv-loop : tie.InvT-loop
 Inv-loop table file₀ out₀ back₀ at₀ file out back at =
-    (at ≤ length table) × (length file ≡ 65536) × (length out ≡ 65536) × (length back ≡ 65536)
+    (at ≤ length table + 1) × (length file ≡ 65536) × (length out ≡ 65536) × (length back ≡ 65536)
 
 abbrev μ-loop : tie.MeasureT-loop
-μ-loop table file₀ out₀ back₀ at₀ file out back at = length table - at
+μ-loop table file₀ out₀ back₀ at₀ file out back at = length table + 1 - at
 
 loop-holds : tie.Need-loop-holds Inv-loop μ-loop
 loop-holds c = search needs
 
-line-end-requires : tie.Need-line-end-requires Inv-loop μ-loop
-line-end-requires c κs = search needs
-
-sub-end : tie.Need-sub-end Inv-loop μ-loop
-sub-end c = search needs
+part-end-requires : tie.Need-part-end-requires Inv-loop μ-loop
+part-end-requires c κs = search needs
 
 sub-test : tie.Need-sub-test Inv-loop μ-loop
 sub-test c = search needs
@@ -34,6 +31,9 @@ part-test-end c = search needs
 
 test-requires : tie.Need-test-requires Inv-loop μ-loop
 test-requires c κs = search needs
+
+add-at : tie.Need-add-at Inv-loop μ-loop
+add-at c = search needs
 
 loop-less : tie.Need-loop-less Inv-loop μ-loop
 loop-less c = search needs
@@ -60,12 +60,12 @@ run-spec =
     Inv-loop
     μ-loop
     loop-holds
-    line-end-requires
-    sub-end
+    part-end-requires
     sub-test
     part-test-start
     part-test-end
     test-requires
+    add-at
     loop-less
     loop-again
     same-length
