@@ -15,7 +15,8 @@ use Rattle.board.specs.Handed.{resetBoard}
 use Rattle.board.specs.Runs.{replies}
 use Rattle.board.specs.declared.Board.{Board}
 use Rattle.reach.proofs.Reach.{demand2}
-use Rattle.log.specs.Lines.{lineOf, eventAt, boardAfter, printedFor, printed}
+use Rattle.records.specs.Records.{eventAt}
+use Rattle.log.specs.Lines.{lineOf, boardAfter, printedFor, printed}
 use Rattle.logged.specs.Whole.{eventsOf, linesOf, answersOf}
 
 -- the board after n events of any sequence

@@ -13,14 +13,14 @@ use Rattle.buffers.specs.Pieces.{piece, joined}
 use Rattle.buffers.proofs.Joined.{joined-more}
 use Rattle.buffers.proofs.Little.{part-bytes, field-small}
 use Rattle.calls.specs.declared.Event.{Event}
-use Rattle.records.specs.Records.{recordOf, eventOf}
+use Rattle.records.specs.Records.{recordOf, eventOf, eventAt}
 use Rattle.records.proofs.Records.{record-event}
 use Rattle.scan.specs.Parts.{parts, between, over}
 use Rattle.scan.proofs.Parts.{parts-cut}
 use Rattle.textin.specs.declared.Text.{Text}
 use Rattle.textout.specs.declared.Run.{Run}
 use Rattle.textin.specs.Texts.{linesOf, wantedOf, wantedIn, addLine, noText, addRecords}
-use Rattle.textout.specs.Prints.{runText, runLine, sameEvent, goesOn, nextRun, endedRun, noRun, eventIn, runAfter, textAfter, textOf}
+use Rattle.textout.specs.Prints.{runText, runLine, sameEvent, goesOn, nextRun, endedRun, noRun, runAfter, textAfter, textOf}
 use Rattle.textin.proofs.Repeats.{repeated}
 use Rattle.textout.proofs.Runs.{goes-below}
 use Rattle.textback.proofs.Calls.{Ranged}
@@ -127,25 +127,25 @@ going-same r e t =
 
 -- what one event more prints and leaves
 module _ (h : List ℕ) (n : ℕ) where
-  goes-text : goesOn (runAfter noRun h n) (eventIn h n) ≡ true → textAfter noRun h (suc n) ≡ textAfter noRun h n
+  goes-text : goesOn (runAfter noRun h n) (eventAt h n) ≡ true → textAfter noRun h (suc n) ≡ textAfter noRun h n
   unfolding textAfter endedRun
   goes-text t = rw t (append-nil (textAfter noRun h n))
 
-  goes-run : goesOn (runAfter noRun h n) (eventIn h n) ≡ true → runAfter noRun h (suc n) ≡ record { times = runAfter noRun h n .times + 1; event = eventIn h n }
+  goes-run : goesOn (runAfter noRun h n) (eventAt h n) ≡ true → runAfter noRun h (suc n) ≡ record { times = runAfter noRun h n .times + 1; event = eventAt h n }
   unfolding runAfter nextRun
   goes-run t = rw t
 
-  ends-text : goesOn (runAfter noRun h n) (eventIn h n) ≡ false → textAfter noRun h (suc n) ≡ textAfter noRun h n ++ runLine (runAfter noRun h n)
+  ends-text : goesOn (runAfter noRun h n) (eventAt h n) ≡ false → textAfter noRun h (suc n) ≡ textAfter noRun h n ++ runLine (runAfter noRun h n)
   unfolding textAfter endedRun
   ends-text t = rw t
 
-  ends-run : goesOn (runAfter noRun h n) (eventIn h n) ≡ false → runAfter noRun h (suc n) ≡ record { times = 1; event = eventIn h n }
+  ends-run : goesOn (runAfter noRun h n) (eventAt h n) ≡ false → runAfter noRun h (suc n) ≡ record { times = 1; event = eventAt h n }
   unfolding runAfter nextRun
   ends-run t = rw t
 
 module _ (h : List ℕ) (bytes : (j : ℕ) → getD h j 0 < 256) where
-  ranged : (j : ℕ) → Ranged (eventIn h j)
-  unfolding eventIn eventOf piece
+  ranged : (j : ℕ) → Ranged (eventAt h j)
+  unfolding eventAt eventOf piece
   ranged j =
       let b = part-bytes 16 h (16 * j) bytes in
       record {
@@ -157,8 +157,8 @@ module _ (h : List ℕ) (bytes : (j : ℕ) → getD h j 0 < 256) where
         w = field-small 8 (piece 16 h j) 8 b;
       }
 
-  record-in : (j : ℕ) → 16 * j + 16 ≤ length h → recordOf (eventIn h j) ≡ piece 16 h j
-  unfolding eventIn piece
+  record-in : (j : ℕ) → 16 * j + 16 ≤ length h → recordOf (eventAt h j) ≡ piece 16 h j
+  unfolding eventAt piece
   record-in j m = record-event (piece 16 h j) (simp (length-take, length-drop) (omega arith)) (part-bytes 16 h (16 * j) bytes)
 
   -- after n records: the lines that were printed and the run that was not say these records
@@ -201,7 +201,7 @@ module _ (h : List ℕ) (bytes : (j : ℕ) → getD h j 0 < 256) where
     run = runAfter noRun h n
 
     abbrev e : Event
-    e = eventIn h n
+    e = eventAt h n
 
     -- the event goes on with the run
     goes : goesOn run e ≡ true → After (suc n)
