@@ -427,18 +427,34 @@ fn watch_text(text: &[u8], o: Output, out: &mut [u8], at: usize) -> usize
     s.at
 }
 
-// The output that a line of the levels starts with.
+// Whether there is such an output.
+fn is_output(letter: u8, number: u64) -> bool {
+    if letter == b'x' {
+        return number < 6;
+    }
+    ((letter == b'd') | (letter == b'p')) & (number < 48)
+}
+
+// The output that a line of the levels starts with, letter 0 if there is no such output.
 fn output_of(line: &[u8]) -> Output {
+    let none = Output {
+        letter: 0,
+        number: 0,
+    };
     let to = scan::part_end(line, 0, true);
     if to == 0 {
-        return Output {
-            letter: 0,
-            number: 0,
-        };
+        return none;
     }
+    let letter = line[0];
     let n = scan::figure(10, &line[1..to]);
+    if !n.good {
+        return none;
+    }
+    if !is_output(letter, n.value) {
+        return none;
+    }
     Output {
-        letter: line[0],
+        letter: letter,
         number: n.value,
     }
 }
@@ -459,9 +475,14 @@ fn run_level(name: &[u8], number: u64, text: &[u8], line: &[u8], out: &mut [u8])
     requires { ⌜ length (now out) ≡ 65536 ⌝ }
     requires { ⌜ length (now line) ≤ 65536 ⌝ }
 {
+    let o = output_of(line);
+    if o.letter == 0 {
+        tell_level(name, number, line, b"no such output");
+        return false;
+    }
     let word = scan::part_end(line, 0, true);
     buffers::copy_to(&line[..word], out, 0);
-    let n = watch_text(text, output_of(line), out, word);
+    let n = watch_text(text, o, out, word);
     if scan::same(line, &out[..n]) {
         return true;
     }

@@ -14,11 +14,9 @@ ghost use mathlib.Core.Path.{_≡_};
 ghost use Prim.Native.Nat.{_+_, _<_, _≤_};
 ghost use lib.ListN.{length};
 use board::Board;
-use calls::Event;
 use history::Transfer;
 use libc::STDIN_FILENO;
 use libc::STDOUT_FILENO;
-use textout::Run;
 
 // What an output is filled with before a test.
 const MARK: u8 = 0xa5;
@@ -371,17 +369,7 @@ fn recoded(h: &[u8]) -> bool {
 // Whether some records, printed as text and read again, are the same.
 fn is_reprinted(h: &[u8], text: &mut [u8]) -> bool {
     let mut back = [0u8; 496];
-    let none = Run {
-        times: 0,
-        event: Event {
-            kind: 0,
-            member: 0,
-            selector: 0,
-            spare: 0,
-            v: 0,
-            w: 0,
-        },
-    };
+    let none = textout::no_run();
     let p = textout::print(none, h, true, text);
     let n = p.written;
     if n > text.len() {

@@ -8,6 +8,18 @@ use borrow.Author.Needs.{needs}
 use Rattle.scenarios.proofs.run_level.Statement.{statement}
 use Rattle.scenarios.proofs.run_level.Tie as tie
 
+output-of-requires : tie.Need-output-of-requires
+output-of-requires c κs = search needs
+
+slice-aggregate-tell-level : tie.Need-slice-aggregate-tell-level
+slice-aggregate-tell-level c = search needs
+
+tell-level-requires : tie.Need-tell-level-requires
+tell-level-requires c κs = search needs
+
+returns : tie.Need-returns
+returns c = search needs
+
 part-end-requires : tie.Need-part-end-requires
 part-end-requires c κs = search needs
 
@@ -16,9 +28,6 @@ slice-aggregate-copy-to c = sym (length-take-le _ _ (omega arith))
 
 copy-to-requires : tie.Need-copy-to-requires
 copy-to-requires c κs = simp length-take (omega arith)
-
-output-of-requires : tie.Need-output-of-requires
-output-of-requires c κs = search needs
 
 watch-text-requires : tie.Need-watch-text-requires
 watch-text-requires c κs = search needs
@@ -35,40 +44,43 @@ same-requires c κs = search needs
 same-length : tie.Need-same-length
 same-length c = search needs
 
-returns : tie.Need-returns
-returns c = search needs
+returns-2 : tie.Need-returns-2
+returns-2 c = search needs
 
 slice-reshare-prefix-tell-level : tie.Need-slice-reshare-prefix-tell-level
 slice-reshare-prefix-tell-level c = search needs
 
-slice-aggregate-tell-level : tie.Need-slice-aggregate-tell-level
-slice-aggregate-tell-level c = sym (length-take-le _ _ (omega arith))
+slice-aggregate-tell-level-2 : tie.Need-slice-aggregate-tell-level-2
+slice-aggregate-tell-level-2 c = sym (length-take-le _ _ (omega arith))
 
-tell-level-requires : tie.Need-tell-level-requires
-tell-level-requires c κs = search needs
+tell-level-requires-2 : tie.Need-tell-level-requires-2
+tell-level-requires-2 c κs = search needs
 
 same-length-2 : tie.Need-same-length-2
 same-length-2 c = search needs
 
-returns-2 : tie.Need-returns-2
-returns-2 c = search needs
+returns-3 : tie.Need-returns-3
+returns-3 c = search needs
 
 pub run-level-spec : {M : Type 1} → statement M
 run-level-spec =
     tie.close
     (tie.spec
+    output-of-requires
+    slice-aggregate-tell-level
+    tell-level-requires
+    returns
     part-end-requires
     slice-aggregate-copy-to
     copy-to-requires
-    output-of-requires
     watch-text-requires
     slice-reshare-prefix-same
     slice-aggregate-same
     same-requires
     same-length
-    returns
+    returns-2
     slice-reshare-prefix-tell-level
-    slice-aggregate-tell-level
-    tell-level-requires
+    slice-aggregate-tell-level-2
+    tell-level-requires-2
     same-length-2
-    returns-2)
+    returns-3)

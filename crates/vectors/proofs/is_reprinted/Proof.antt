@@ -7,6 +7,9 @@ use borrow.Author.Needs.{needs}
 use Rattle.vectors.proofs.is_reprinted.Statement.{statement}
 use Rattle.vectors.proofs.is_reprinted.Tie as tie
 
+no-run-requires : tie.Need-no-run-requires
+no-run-requires c κs = search needs
+
 print-requires : tie.Need-print-requires
 print-requires c κs = search needs
 
@@ -53,6 +56,7 @@ pub is-reprinted-spec : {M : Type 1} → statement M
 is-reprinted-spec =
     tie.close
     (tie.spec
+    no-run-requires
     print-requires
     same-length
     returns
