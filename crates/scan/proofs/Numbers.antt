@@ -1,6 +1,6 @@
 -- Laws of numbers as they are read.
 -- Assumes nothing.
-use mathlib.Core.Path.{_≡_, refl, ap, _∙_}
+use mathlib.Core.Path.{_≡_, refl, ap}
 use mathlib.Core.Bool.{true, false}
 use mathlib.Core.List.{List, [], _∷_}
 use Prim.Native.Nat.{ℕ, _+_, _*_, _^_, _≤_, _<_}
@@ -44,11 +44,6 @@ extended-digit base n d b e h k =
 
 -- ---- all digits
 
-pub over-none : (base : ℕ) (l : List ℕ) → over (extended base) noAmount l ≡ noAmount
-unfolding over
-over-none base [] = refl
-over-none base (b ∷ l) = rw (extended-none base noAmount b refl) (over-none base l)
-
 pub figure-none : (base : ℕ) (l : List ℕ) → length l ≡ 0 → figure base l ≡ noAmount
 unfolding figure
 figure-none base l h = rw (eq-eqb (length l) 0 h)
@@ -57,17 +52,7 @@ pub figure-some : (base : ℕ) (l : List ℕ) → 0 < length l → figure base l
 unfolding figure
 figure-some base l h = rw (ne-eqb (length l) 0 (λ e. omega arith))
 
--- the first byte is no digit
-pub figure-letter : (base b : ℕ) (l : List ℕ) → base ≤ worth b → figure base (b ∷ l) ≡ noAmount
-unfolding over
-figure-letter base b l h =
-    figure-some base (b ∷ l) (omega arith) ∙ rw (extended-other base (record { good = true; value = 0 }) b refl h) (over-none base l)
-
 -- ---- decimal or hexadecimal
-
-worth-zero : worth 48 ≡ 0
-unfolding worth
-worth-zero = refl
 
 -- the two bytes 0x
 zero-x : ascii "0x" ≡ 48 ∷ 120 ∷ []
@@ -84,9 +69,3 @@ number-decimal l h = rw (zero-x, h)
 
 pub number-short : (l : List ℕ) → length l < 2 → number l ≡ figure 10 l
 number-short l h = number-decimal l (same-not _ _ (λ e. omega (arith, simp length-take at (ap length e))))
-
--- a word that begins with a letter is no number
-pub number-letter : (b : ℕ) (l : List ℕ) → worth b ≡ 16 → number (b ∷ l) ≡ noAmount
-number-letter b l e =
-    let other : same (take 2 (b ∷ l)) (48 ∷ 120 ∷ []) ≡ false = same-not _ _ (λ q. let z : _≡_ {A = ℕ} 0 16 = cc worth-zero in omega arith) in
-    number-decimal (b ∷ l) other ∙ figure-letter 10 b l (rw e (omega arith))

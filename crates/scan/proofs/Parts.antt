@@ -100,11 +100,6 @@ pub before-end : (m : ℕ) → before m [] ≡ []
 unfolding before
 before-end m = refl
 
--- where there is no mark they are all
-pub before-none : (m : ℕ) (l : List ℕ) → ((j : ℕ) → j < length l → eqb (getD l j 0) m ≡ false) → before m l ≡ l
-before-none m [] h = before-end m
-before-none m (b ∷ l) h = before-byte m b l (h 0 (omega arith)) ∙ rw (before-none m l (λ j k. h (suc j) (omega arith)))
-
 -- they are the bytes passed up to place i and those of the rest
 abbrev pub Passed : ℕ → List ℕ → ℕ → Type 0
 Passed m l i = take i l ++ before m (drop i l) ≡ before m l

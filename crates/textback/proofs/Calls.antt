@@ -85,6 +85,19 @@ goodLeft : ℕ → ℕ → Bool
 goodLeft zero left = true
 goodLeft (suc n) left = cond (eqb left 0) true (ltb 0 (left % 8) && (ltb (left % 8) 7 && goodLeft n (left / 8)))
 
+-- where one is left, it is a field, and so are those behind it
+record Left (n left : ℕ) : Type 0 where
+  pub some : 0 < left % 8
+  pub field : left % 8 < 7
+  pub rest : goodLeft n (left / 8) ≡ true
+
+left-more : (n left : ℕ) → goodLeft (suc n) left ≡ true → eqb left 0 ≡ false → Left n left
+unfolding goodLeft
+left-more n left g q =
+    let a = and-eq-true-iff (ltb 0 (left % 8)) (ltb (left % 8) 7 && goodLeft n (left / 8)) .0 (rw q at g) in
+    let b = and-eq-true-iff (ltb (left % 8) 7) (goodLeft n (left / 8)) .0 (a .1) in
+    record { some = ltb-true 0 (left % 8) (a .0); field = ltb-true (left % 8) 7 (b .0); rest = b .1 }
+
 leftOver : ℕ → ℕ → ℕ
 leftOver zero left = left
 leftOver (suc n) left = cond (eqb left 0) left (leftOver n (left / 8))
@@ -112,21 +125,20 @@ reads-field n left f e l r p z m h =
 
 reads-fields : (n left : ℕ) (f e : Event) (l : List ℕ) → Ranged e → goodLeft n left ≡ true → led l ≡ true
     → reads (at 1 left 1 f) (fieldsText n left e ++ l) ≡ reads (at 1 (leftOver n left) 1 (filled n left f e)) l
-unfolding fieldsText goodLeft leftOver filled
+unfolding fieldsText leftOver filled
 reads-fields zero left f e l r g h = refl
-reads-fields (suc n) left f e l r g h = more (eqb left 0) refl g (λ k. reads-fields n (left / 8) (withField f (left % 8) (fieldOf e (left % 8))) e l r k h)
+reads-fields (suc n) left f e l r g h = more (eqb left 0) refl (λ k. reads-fields n (left / 8) (withField f (left % 8) (fieldOf e (left % 8))) e l r k h)
   where
-    more : (t : Bool) → eqb left 0 ≡ t → cond t true (ltb 0 (left % 8) && (ltb (left % 8) 7 && goodLeft n (left / 8))) ≡ true
+    more : (t : Bool) → eqb left 0 ≡ t
         → (goodLeft n (left / 8) ≡ true
         → reads (at 1 (left / 8) 1 (withField f (left % 8) (fieldOf e (left % 8)))) (fieldsText n (left / 8) e ++ l)
         ≡ reads (at 1 (leftOver n (left / 8)) 1 (filled n (left / 8) (withField f (left % 8) (fieldOf e (left % 8))) e)) l)
         → reads (at 1 left 1 f) (cond t [] ((32 ∷ fieldText e (left % 8)) ++ fieldsText n (left / 8) e) ++ l)
         ≡ reads (at 1 (cond t left (leftOver n (left / 8))) 1 (cond t f (filled n (left / 8) (withField f (left % 8) (fieldOf e (left % 8))) e))) l
-    more true q k i = refl
-    more false q k i =
-        let a = and-eq-true-iff (ltb 0 (left % 8)) (ltb (left % 8) 7 && goodLeft n (left / 8)) .0 k in
-        let b = and-eq-true-iff (ltb (left % 8) 7) (goodLeft n (left / 8)) .0 (a .1) in
-        reads-field n left f e l r (omega (arith, eqb-false left 0 q)) (ltb-true 0 (left % 8) (a .0)) (ltb-true (left % 8) 7 (b .0)) h ∙ i (b .1)
+    more true q i = refl
+    more false q i =
+        let m = left-more n left g q in
+        reads-field n left f e l r (omega (arith, eqb-false left 0 q)) (m .some) (m .field) h ∙ i (m .rest)
 
 -- ---- the fields of a kind
 
@@ -224,20 +236,18 @@ reads-raw e l r h = reads-name 30 e l (omega arith) (omega arith) r (raw-same e 
 -- ---- the bytes of the line
 
 kept-fields : (n left : ℕ) (e : Event) → Ranged e → goodLeft n left ≡ true → Kept (n * 21) (fieldsText n left e)
-unfolding fieldsText goodLeft
+unfolding fieldsText
 kept-fields zero left e r g = kept-none 0
-kept-fields (suc n) left e r g = more (eqb left 0) g (kept-fields n (left / 8) e r)
+kept-fields (suc n) left e r g = more (eqb left 0) refl (kept-fields n (left / 8) e r)
   where
-    more : (t : Bool) → cond t true (ltb 0 (left % 8) && (ltb (left % 8) 7 && goodLeft n (left / 8))) ≡ true
-        → (goodLeft n (left / 8) ≡ true → Kept (n * 21) (fieldsText n (left / 8) e))
+    more : (t : Bool) → eqb left 0 ≡ t → (goodLeft n (left / 8) ≡ true → Kept (n * 21) (fieldsText n (left / 8) e))
         → Kept (suc n * 21) (cond t [] ((32 ∷ fieldText e (left % 8)) ++ fieldsText n (left / 8) e))
-    more true k i = kept-none (suc n * 21)
-    more false k i =
-        let a = and-eq-true-iff (ltb 0 (left % 8)) (ltb (left % 8) 7 && goodLeft n (left / 8)) .0 k in
-        let b = and-eq-true-iff (ltb (left % 8) 7) (goodLeft n (left / 8)) .0 (a .1) in
-        let x = written e r (left % 8) (ltb-true 0 (left % 8) (a .0)) (ltb-true (left % 8) 7 (b .0)) in
-        let q : 20 + 1 + n * 21 ≡ suc n * 21 = omega arith in
-        rw (← q) (kept-append 21 (n * 21) (32 ∷ fieldText e (left % 8)) (fieldsText n (left / 8) e) (kept-led 20 (fieldText e (left % 8)) (x .word) (x .short)) (i (b .1)))
+    more true q i = kept-none (suc n * 21)
+    more false q i =
+        let m = left-more n left g q in
+        let x = written e r (left % 8) (m .some) (m .field) in
+        let s : 20 + 1 + n * 21 ≡ suc n * 21 = omega arith in
+        rw (← s) (kept-append 21 (n * 21) (32 ∷ fieldText e (left % 8)) (fieldsText n (left / 8) e) (kept-led 20 (fieldText e (left % 8)) (x .word) (x .short)) (i (m .rest)))
 
 pub kept-name : (k : ℕ) → k < 31 → Kept 25 (name k)
 kept-name k b = kept-word 25 (name k) (name-word k b) (name-length k b)

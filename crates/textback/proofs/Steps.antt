@@ -183,25 +183,25 @@ pub reads-step : (e : Event) (l : List ℕ) → e ≡ lines (e .v) (e .w) → e 
     → reads starting (stepText e ++ l) ≡ reads (ended false (any-up (e .v) (e .w)) e) l
 unfolding stepText inputText pinText called-at any-up
 reads-step e l q v w h =
-    ap (reads starting) (append-assoc (name 0) (ups ++ downs) l)
-    ∙ reads-word starting (name 0) ((ups ++ downs) ++ l) (name-word 0 (omega arith)) (led-append (ups ++ downs) l (led-append ups downs ledUps ledDowns) h)
-    ∙ ap (λ (s : Reading). reads s ((ups ++ downs) ++ l)) take-step
-    ∙ ap (reads (behind false (lines 0 0))) (append-assoc ups downs l)
-    ∙ reads-all 18 false inputName inputs (e .v) (λ x. lines x 0) raise-input false (downs ++ l) v (led-append downs l ledDowns h)
+    ap (reads starting) (append-assoc (name 0) (input-names ++ pin-names) l)
+    ∙ reads-word starting (name 0) ((input-names ++ pin-names) ++ l) (name-word 0 (omega arith)) (led-append (input-names ++ pin-names) l (led-append input-names pin-names led-inputs led-pins) h)
+    ∙ ap (λ (s : Reading). reads s ((input-names ++ pin-names) ++ l)) take-step
+    ∙ ap (reads (behind false (lines 0 0))) (append-assoc input-names pin-names l)
+    ∙ reads-all 18 false inputName inputs (e .v) (λ x. lines x 0) raise-input false (pin-names ++ l) v (led-append pin-names l led-pins h)
     ∙ reads-all 48 true pinName pins (e .w) (lines (e .v)) (raise-pin (e .v)) (some-up 18 false inputName inputs (e .v) 18 false) l w h
     ∙ ap (λ (x : Event). reads (behind (any-up (e .v) (e .w)) x) l) (sym q)
   where
-    ups : List ℕ
-    ups = joined 18 (called-at 18 false inputName inputs (e .v))
+    input-names : List ℕ
+    input-names = joined 18 (called-at 18 false inputName inputs (e .v))
 
-    downs : List ℕ
-    downs = joined 48 (called-at 48 true pinName pins (e .w))
+    pin-names : List ℕ
+    pin-names = joined 48 (called-at 48 true pinName pins (e .w))
 
-    ledUps : led ups ≡ true
-    ledUps = led-joined 18 (called-at 18 false inputName inputs (e .v)) (λ i k. led-at 18 false inputName inputs (e .v) i)
+    led-inputs : led input-names ≡ true
+    led-inputs = led-joined 18 (called-at 18 false inputName inputs (e .v)) (λ i k. led-at 18 false inputName inputs (e .v) i)
 
-    ledDowns : led downs ≡ true
-    ledDowns = led-joined 48 (called-at 48 true pinName pins (e .w)) (λ i k. led-at 48 true pinName pins (e .w) i)
+    led-pins : led pin-names ≡ true
+    led-pins = led-joined 48 (called-at 48 true pinName pins (e .w)) (λ i k. led-at 48 true pinName pins (e .w) i)
 
 pub kept-step : (e : Event) → Kept 289 (stepText e)
 unfolding stepText inputText pinText called-at

@@ -67,10 +67,6 @@ take-input false e w u s n i g = take-some (behind false e) w s ∙ rw (n, i, g)
 abbrev star : List ℕ
 star = 42 ∷ []
 
-star-bytes : ascii "*" ≡ star
-unfolding ascii tab
-star-bytes = refl
-
 star-no-number : number star .good ≡ false
 unfolding number figure extended worth over same ascii tab
 star-no-number = refl
