@@ -1,5 +1,6 @@
 -- `text::digit` meets its contract.
 -- Assumes nothing.
+use native.Mathlib.Omega.{arith}
 use borrow.Author.Needs.{needs}
 use borrow.Author.Tests.{lt-ltb, le-ltb}
 use Rattle.text.specs.Decimal.{digit}
@@ -20,11 +21,11 @@ add-result-2 c = search needs
 
 returns : tie.Need-returns
 unfolding digit
-returns c = rw (lt-ltb _ 10 (c .if1 .taken))
+returns c = rw (lt-ltb (c .before .args .d) 10 (omega arith))
 
 returns-2 : tie.Need-returns-2
 unfolding digit
-returns-2 c = rw (le-ltb _ 10 (c .if1 .left))
+returns-2 c = rw (le-ltb (c .before .args .d) 10 (omega arith))
 
 pub digit-spec : {M : Type 1} → statement M
 digit-spec =

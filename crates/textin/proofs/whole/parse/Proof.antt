@@ -1,7 +1,9 @@
 -- `textin::whole::parse` meets its contract.
 -- Assumes nothing.
 use mathlib.Core.Path.{refl}
+use Prim.Native.Nat.{_/_}
 use native.Mathlib.Omega.{arith}
+use lib.ListN.{length}
 use borrow.Author.Tests.{lt-ltb, le-ltb, eq-eqb, ne-eqb}
 use Rattle.textin.specs.Texts.{answered, output}
 use Rattle.textin.proofs.Texts.{records-counted}
@@ -20,7 +22,9 @@ returns-2 : tie.Need-returns-2
 unfolding answered output
 returns-2 c =
     let good = c .before .before in
-    rw (← good .before .before .check .ensures, eq-eqb _ 0 (good .if1 .left), lt-ltb _ _ (c .if2 .taken)) (refl, refl)
+    let t = good .before .before .check .result in
+    let a = good .before .before .before .before .before .args in
+    rw (← good .before .before .check .ensures, eq-eqb (t .wanted) 0 (good .if1 .left), lt-ltb (length (a .out .now) / 16) (t .count) (omega arith)) (refl, refl)
 
 write-requires : tie.Need-write-requires
 write-requires c κs =
