@@ -91,6 +91,10 @@ respondWith stepOf b e = respondBy stepOf (classOf (e .kind)) b e
 unfoldable pub respond : Board → Event → Reply Board
 respond b e = respondWith stepped b e
 
+-- no step at all: the machine of every event but an accepted step
+abbrev pub stay : ℕ → ℕ → Board → Board
+stay v w b = b
+
 -- the same, as the code's struct has it
 abbrev pub outcome : Reply Board → Outcome
 outcome r = record { board = r .state; answer = r .answer }

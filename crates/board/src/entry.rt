@@ -1,5 +1,6 @@
 // The entry point: any board, any event.
 ghost use mathlib.Core.Path.{_≡_};
+ghost use mathlib.Core.Bool.{true};
 ghost use Rattle.board.specs.Respond.{outcome};
 ghost use Rattle.board.specs.Handed.{resetBoard, repairedBoard, lostCleared, applied};
 ghost use Rattle.counter.specs.Repair.{repaired};
@@ -40,6 +41,31 @@ impl Board {
         }
     }
 
+    // Every field is in its range, so that the repair changes nothing.
+    pub fn is_sound(self) -> bool
+        ensures { λ r. ⌜ (r ≡ true → repairedBoard self ≡ self) ⌝ }
+    {
+        let cs = self.channels;
+        let pins = self.pins;
+        let virtuals = self.virtuals;
+        let core = self.core;
+        let o0 = cs[0];
+        let o1 = cs[1];
+        let o2 = cs[2];
+        let o3 = cs[3];
+        let o4 = cs[4];
+        let o5 = cs[5];
+        o0.is_sound()
+            & o1.is_sound()
+            & o2.is_sound()
+            & o3.is_sound()
+            & o4.is_sound()
+            & o5.is_sound()
+            & pins.is_sound()
+            & virtuals.is_sound()
+            & core.is_sound()
+    }
+
     // The lost count of a channel to 0.
     fn clear_lost(mut self, member: u8) -> Board
         ensures { λ r. ⌜ r ≡ lostCleared member self ⌝ }
@@ -54,11 +80,29 @@ impl Board {
     }
 }
 
-// The answer of any event on any board, and the next board.
+// The repaired board; a sound one is handed back as it is.
+fn mended(board: Board) -> Board
+    ensures { λ r. ⌜ r ≡ repairedBoard board ⌝ }
+{
+    if board.is_sound() {
+        return board;
+    }
+    board.repair()
+}
+
+// The answer of any event on any board, and the next board. A step on a sound board needs no repair.
 pub fn apply(board: Board, event: Event) -> Outcome
     ensures { λ r. ⌜ r ≡ outcome (applied board event) ⌝ }
 {
-    let r = board.repair().respond(event);
+    if calls::is_step(event) {
+        if board.is_sound() {
+            return Outcome {
+                board: board.step(event.v, event.w),
+                answer: calls::number(0, 0),
+            };
+        }
+    }
+    let r = mended(board).respond(event);
     let answer = r.answer;
     if answer.result == 0 {
         return r;

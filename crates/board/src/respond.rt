@@ -1,8 +1,7 @@
 // Every event on a board whose fields are in their ranges.
 ghost use mathlib.Core.Path.{_≡_};
 ghost use Rattle.calls.specs.Reply.{refuse};
-ghost use Rattle.board.specs.Respond.{step, channel, pin, virtual, board, respondBy, respond, outcome};
-ghost use Rattle.board.specs.Step.{stepped};
+ghost use Rattle.board.specs.Respond.{step, channel, pin, virtual, board, respondBy, respondWith, respond, stay, outcome};
 use crate::Board;
 use crate::Outcome;
 use calls::Event;
@@ -18,22 +17,19 @@ impl Board {
         }
     }
 
-    // Kind 0.
-    fn step_event(self, e: Event) -> Outcome
-        ensures { λ r. ⌜ r ≡ outcome (respondBy stepped step self e) ⌝ }
+    // Kind 0, with no step.
+    fn kept_event(self, e: Event) -> Outcome
+        ensures { λ r. ⌜ r ≡ outcome (respondBy stay step self e) ⌝ }
     {
         if calls::fits(e) {
-            return Outcome {
-                board: self.step(e.v, e.w),
-                answer: calls::number(0, 0),
-            };
+            return self.refuse(0);
         }
         self.refuse(3)
     }
 
     // Calls 1 to 12.
     fn channel_event(mut self, e: Event) -> Outcome
-        ensures { λ r. ⌜ r ≡ outcome (respondBy stepped channel self e) ⌝ }
+        ensures { λ r. ⌜ r ≡ outcome (respondBy stay channel self e) ⌝ }
     {
         let m = e.member as usize;
         if crate::CHANNELS <= m {
@@ -55,7 +51,7 @@ impl Board {
 
     // Calls 13 to 17.
     fn pin_event(mut self, e: Event) -> Outcome
-        ensures { λ r. ⌜ r ≡ outcome (respondBy stepped pin self e) ⌝ }
+        ensures { λ r. ⌜ r ≡ outcome (respondBy stay pin self e) ⌝ }
     {
         let m = e.member as u64;
         if ports::PINS <= m {
@@ -77,7 +73,7 @@ impl Board {
 
     // Calls 18 to 21.
     fn virtual_event(mut self, e: Event) -> Outcome
-        ensures { λ r. ⌜ r ≡ outcome (respondBy stepped virtual self e) ⌝ }
+        ensures { λ r. ⌜ r ≡ outcome (respondBy stay virtual self e) ⌝ }
     {
         let m = e.member as u64;
         if ports::VIRTUALS <= m {
@@ -99,7 +95,7 @@ impl Board {
 
     // Calls 22 to 29.
     fn board_event(mut self, e: Event) -> Outcome
-        ensures { λ r. ⌜ r ≡ outcome (respondBy stepped board self e) ⌝ }
+        ensures { λ r. ⌜ r ≡ outcome (respondBy stay board self e) ⌝ }
     {
         if 1 <= e.member {
             return self.refuse(1);
@@ -118,18 +114,31 @@ impl Board {
         self.refuse(3)
     }
 
-    // The answer of an event and the next board, on a board whose fields are in their ranges.
-    pub fn respond(self, e: Event) -> Outcome
-        ensures { λ r. ⌜ r ≡ outcome (respond self e) ⌝ }
+    // Every event but a step that is accepted, which is answered with 0 and no step here.
+    pub fn call(self, e: Event) -> Outcome
+        ensures { λ r. ⌜ r ≡ outcome (respondWith stay self e) ⌝ }
     {
         let kind = e.kind;
         match kind {
-            0 => self.step_event(e),
+            0 => self.kept_event(e),
             1..=12 => self.channel_event(e),
             13..=17 => self.pin_event(e),
             18..=21 => self.virtual_event(e),
             22..=29 => self.board_event(e),
             _ => self.refuse(2),
         }
+    }
+
+    // The answer of an event and the next board, on a board whose fields are in their ranges.
+    pub fn respond(self, e: Event) -> Outcome
+        ensures { λ r. ⌜ r ≡ outcome (respond self e) ⌝ }
+    {
+        if calls::is_step(e) {
+            return Outcome {
+                board: self.step(e.v, e.w),
+                answer: calls::number(0, 0),
+            };
+        }
+        self.call(e)
     }
 }

@@ -2,14 +2,15 @@
 ghost use mathlib.Core.Path.{_≡_};
 ghost use Prim.Native.Nat.{_<_, _+_, _*_, _/_};
 ghost use Rattle.words.specs.Bits.{bit};
-ghost use Rattle.counter.specs.Advance.{advance};
-ghost use Rattle.board.specs.Inputs.{extouts, indexOf, carriedBy, samplesOf, inputsOf, allNext};
+ghost use Rattle.counter.specs.Halves.{countedOf};
+ghost use Rattle.board.specs.Inputs.{extouts, indexOf, carriedBy, samplesOf, allNext};
 ghost use Rattle.board.specs.Step.{sceneOf, coreNext, stepped};
 use crate::Board;
 use crate::Scene;
 use control::Clock;
 use control::Core;
 use counter::Channel;
+use counter::Counted;
 
 // Bit c is ExtOut of channel c.
 fn extouts(cs: [Channel; 6]) -> u64
@@ -61,16 +62,15 @@ fn samples(s: Scene, c: u64, mode: u32, route: u32) -> u32
     words::flag(a) + 2 * words::flag(b) + 4 * words::flag(index) + 8 * words::flag(extin)
 }
 
-// Channel c after the step.
-fn advance(me: Channel, s: Scene, c: u64, carry: i32) -> Channel
-    requires { ⌜ c < 6 ⌝ }
-    ensures { λ r. ⌜ r ≡ advance (inputsOf s c carry me) me ⌝ }
+// The first half of a channel's step, with the neighbour's carry.
+fn count(me: Channel, now: u32, carry: i32, rises: bool) -> Counted
+    ensures { λ r. ⌜ r ≡ countedOf now (carriedBy (me .mode) carry) rises me ⌝ }
 {
-    let now = samples(s, c, me.mode, me.route);
-    me.step(now, carried_by(me.mode, carry), s.rises, s.timestamp)
+    me.counted(now, carried_by(me.mode, carry), rises)
 }
 
-// Part 5: each channel from the old array, into a new one.
+// Part 5: each channel from the old array, into a new one. The calls are written out six times, so
+// that each channel's record stays where it is (docs/SPEED.md).
 fn advance_all(old: [Channel; 6], s: Scene) -> [Channel; 6]
     ensures { λ r. ⌜ r ≡ allNext s old ⌝ }
 {
@@ -80,12 +80,30 @@ fn advance_all(old: [Channel; 6], s: Scene) -> [Channel; 6]
     let o3 = old[3];
     let o4 = old[4];
     let o5 = old[5];
-    let c0 = advance(o0, s, 0, o5.carry);
-    let c1 = advance(o1, s, 1, o0.carry);
-    let c2 = advance(o2, s, 2, o1.carry);
-    let c3 = advance(o3, s, 3, o2.carry);
-    let c4 = advance(o4, s, 4, o3.carry);
-    let c5 = advance(o5, s, 5, o4.carry);
+    let w0 = samples(s, 0, o0.mode, o0.route);
+    let k0 = count(o0, w0, o5.carry, s.rises);
+    let n0 = o0.finished(k0, w0);
+    let c0 = o0.settle(n0, w0, s.timestamp);
+    let w1 = samples(s, 1, o1.mode, o1.route);
+    let k1 = count(o1, w1, o0.carry, s.rises);
+    let n1 = o1.finished(k1, w1);
+    let c1 = o1.settle(n1, w1, s.timestamp);
+    let w2 = samples(s, 2, o2.mode, o2.route);
+    let k2 = count(o2, w2, o1.carry, s.rises);
+    let n2 = o2.finished(k2, w2);
+    let c2 = o2.settle(n2, w2, s.timestamp);
+    let w3 = samples(s, 3, o3.mode, o3.route);
+    let k3 = count(o3, w3, o2.carry, s.rises);
+    let n3 = o3.finished(k3, w3);
+    let c3 = o3.settle(n3, w3, s.timestamp);
+    let w4 = samples(s, 4, o4.mode, o4.route);
+    let k4 = count(o4, w4, o3.carry, s.rises);
+    let n4 = o4.finished(k4, w4);
+    let c4 = o4.settle(n4, w4, s.timestamp);
+    let w5 = samples(s, 5, o5.mode, o5.route);
+    let k5 = count(o5, w5, o4.carry, s.rises);
+    let n5 = o5.finished(k5, w5);
+    let c5 = o5.settle(n5, w5, s.timestamp);
     [c0, c1, c2, c3, c4, c5]
 }
 

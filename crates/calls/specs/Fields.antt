@@ -37,3 +37,7 @@ fits e =
     && (not (eqb (e .kind) 1) || goodMode (e .v))
     && (not (eqb (e .kind) 25) || not (eqb (e .v) 0))
     && (not (eqb (e .kind) 0) || eqb (e .member) 0)
+
+-- a step that is accepted
+abbrev pub isStep : Event → Bool
+isStep e = eqb (e .kind) 0 && fits e

@@ -1,7 +1,7 @@
 // Result 3: the field checks of each kind.
 ghost use mathlib.Core.Path.{_≡_};
 ghost use mathlib.Core.Bool.{cond};
-ghost use Rattle.calls.specs.Fields.{limit, fits};
+ghost use Rattle.calls.specs.Fields.{limit, fits, isStep};
 use crate::Event;
 
 // V is below this, kind by kind.
@@ -68,4 +68,16 @@ pub fn fits(e: Event) -> bool
         & (!(e.kind == 1) | good)
         & (!(e.kind == 25) | !(e.v == 0))
         & (!(e.kind == 0) | (e.member == 0))
+}
+
+// A step that is accepted: its fields are as a step wants them.
+pub fn is_step(e: Event) -> bool
+    ensures { λ r. ⌜ r ≡ isStep e ⌝ }
+{
+    (e.kind == 0)
+        & ((e.spare == 0)
+            & (e.selector < 1)
+            & (e.w < 281474976710656)
+            & (e.v < 262144)
+            & (e.member == 0))
 }

@@ -15,6 +15,7 @@ pub use channel_calls::channel_call;
 use control::Core;
 use counter::Channel;
 pub use fields::fits;
+pub use fields::is_step;
 pub use pin_calls::pin_call;
 use ports::Pin;
 use ports::Virtual;

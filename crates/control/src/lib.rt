@@ -1,5 +1,6 @@
 // The board's own part: the clock with its ticks, the watchdog, and safemode with what sets it.
 ghost use mathlib.Core.Path.{_≡_};
+ghost use mathlib.Core.Bool.{true};
 ghost use Prim.Native.Nat.{_+_, _<_};
 ghost use Rattle.words.specs.Bits.{word};
 ghost use Rattle.control.specs.Clock.{prescalerNext, risesAt, advanced, tick, ticks, repairedClock};
@@ -168,6 +169,16 @@ impl Safety {
 }
 
 impl Core {
+    // Every field is in its range, so that the repair changes nothing.
+    pub fn is_sound(self) -> bool
+        ensures { λ r. ⌜ (r ≡ true → repairedCore self ≡ self) ⌝ }
+    {
+        let clock = self.clock;
+        let watchdog = self.watchdog;
+        let safety = self.safety;
+        (clock.prescaler < PRESCALE) & (watchdog.interval != 0) & (safety.control < 8)
+    }
+
     // The board's own part handed in.
     pub fn repair(self) -> Core
         ensures { λ r. ⌜ r ≡ repairedCore self ⌝ }

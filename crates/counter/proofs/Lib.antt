@@ -1,4 +1,10 @@
 pub mod Signed
-pub mod Table
-pub mod Small
 pub mod Wrap
+pub mod Tables
+pub mod Flags
+pub mod Codes
+pub mod Edges
+pub mod Asked
+pub mod Placed
+pub mod Halves
+pub mod Same

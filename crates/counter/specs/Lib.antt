@@ -6,3 +6,4 @@ pub mod Queue
 pub mod Preload
 pub mod Advance
 pub mod Repair
+pub mod Halves

@@ -1,39 +1,24 @@
 // The difference that a step adds to the count: -1, 0 or +1.
 ghost use mathlib.Core.Path.{_≡_};
-ghost use mathlib.Core.Bool.{cond};
-ghost use Prim.Native.Nat.{_≤_, _%_};
+ghost use mathlib.Core.Bool.{cond, true};
+ghost use Prim.Native.Nat.{_≤_};
 ghost use lib.Signed.{mag};
 ghost use lib.IntN.{pos};
-ghost use Rattle.counter.specs.Quadrature.{quadrature};
-ghost use Rattle.counter.specs.Difference.{isUp, isDown, sign, unit, clocked, reversed, moved, carryOf};
+ghost use Rattle.counter.specs.Difference.{isUp, isDown, reversed, moved, carryOf};
 ghost use Rattle.counter.specs.Repair.{inCarry};
 
 // `d` counts up.
-pub fn is_up(d: i32) -> bool
+fn is_up(d: i32) -> bool
     ensures { λ r. ⌜ r ≡ isUp d ⌝ }
 {
     0 < d
 }
 
 // `d` counts down.
-pub fn is_down(d: i32) -> bool
+fn is_down(d: i32) -> bool
     ensures { λ r. ⌜ r ≡ isDown d ⌝ }
 {
     d < 0
-}
-
-// -1, 0 or +1, as `d` is below 0, 0 or above.
-fn sign(d: i32) -> i32
-    ensures { λ r. ⌜ r ≡ sign d ⌝ }
-{
-    if 0 < d { 1 } else { if d < 0 { -1 } else { 0 } }
-}
-
-// 1 for true, 0 for false.
-fn unit(b: bool) -> i32
-    ensures { λ r. ⌜ r ≡ unit b ⌝ }
-{
-    if b { 1 } else { 0 }
 }
 
 // `d` where `on`, else 0.
@@ -41,31 +26,6 @@ pub fn gate(on: bool, d: i32) -> i32
     ensures { λ r. ⌜ r ≡ cond on d (pos 0) ⌝ }
 {
     if on { d } else { 0 }
-}
-
-// The quadrature difference of the samples kept and present.
-fn turned(before: u32, now: u32) -> i32
-    ensures { λ r. ⌜ r ≡ quadrature (before % 4) (now % 4) ⌝ }
-{
-    let at = (before % 4 * 4 + now % 4) as usize;
-    crate::quadrature::turn(at)
-}
-
-// The difference by the clock K.
-pub fn clocked(k: u32, before: u32, now: u32, rises: bool, carried: i32) -> i32
-    ensures { λ r. ⌜ r ≡ clocked k before now rises carried ⌝ }
-{
-    match k {
-        0 => unit(!(before % 2 == 1) & (now % 2 == 1)),
-        1 => unit((before % 2 == 1) & !(now % 2 == 1)),
-        2 => unit(rises),
-        3 => 1,
-        4 => sign(carried),
-        _ => gate(
-            crate::quadrature::keeps(k, before, now),
-            turned(before, now),
-        ),
-    }
 }
 
 // UD reverses the sign.
@@ -108,4 +68,11 @@ pub fn in_carry(d: i32) -> i32
     ensures { λ r. ⌜ r ≡ inCarry d ⌝ }
 {
     if (d < -1) | (1 < d) { 0 } else { d }
+}
+
+// A carry in its range.
+pub fn is_carry(d: i32) -> bool
+    ensures { λ r. ⌜ (r ≡ true → inCarry d ≡ d) ⌝ }
+{
+    !((d < -1) | (1 < d))
 }

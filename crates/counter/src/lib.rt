@@ -3,19 +3,20 @@
 // anything of a record, so a channel with fields outside their ranges is answered too.
 ghost use mathlib.Core.Path.{_≡_};
 ghost use mathlib.Core.Bool.{true};
-ghost use Prim.Native.Nat.{_-_};
+ghost use Prim.Native.Nat.{_-_, _<_};
 ghost use lib.Dec.{eqb};
+ghost use lib.ListN.{set};
 ghost use Rattle.words.specs.Range.{below};
 ghost use Rattle.counter.specs.Mode.{TE};
 ghost use Rattle.counter.specs.Setters.{withRun};
 ghost use Rattle.counter.specs.Queue.{captured, popped, shifted};
 ghost use Rattle.counter.specs.Preload.{preloaded, started, selected};
-ghost use Rattle.counter.specs.Advance.{advance, inputs, settled, nextOf};
+ghost use Rattle.counter.specs.Advance.{advance, inputs, settled};
+ghost use Rattle.counter.specs.Halves.{countedOf, finishedOf};
 ghost use Rattle.counter.specs.Repair.{inReasons, repaired, resetChannel};
 
 mod difference;
 pub mod mode;
-mod quadrature;
 mod stages;
 
 // The number of captures that a queue holds.
@@ -45,6 +46,15 @@ pub struct Channel {
     pub lost: u32,
 }
 
+// The first half of a step: the count before a preload, the events of the step by their reason bits,
+// the carry, and armed before a preload.
+pub struct Counted {
+    pub count: u32,
+    pub events: u32,
+    pub carry: i32,
+    pub armed: bool,
+}
+
 // What a step makes of a channel's small fields: `seen` is the count before a preload, which a
 // capture holds, and `caught` the reasons of that capture, 0 for none.
 pub struct Next {
@@ -64,10 +74,15 @@ impl Channel {
     {
         let held = self.held;
         if held < QUEUE {
-            let at = held as usize;
-            self.counts[at] = count;
-            self.timestamps[at] = timestamp;
-            self.reasons[at] = reason;
+            let counts = self.counts;
+            let timestamps = self.timestamps;
+            let reasons = self.reasons;
+            let c = put(counts, held, count);
+            let t = put(timestamps, held, timestamp);
+            let r = put(reasons, held, reason);
+            self.counts = c;
+            self.timestamps = t;
+            self.reasons = r;
             self.held = held + 1;
         } else {
             if self.lost < 4294967295 {
@@ -142,33 +157,44 @@ impl Channel {
         }
     }
 
-    // What a step makes of the small fields.
-    fn next(self, now: u32, carried: i32, rises: bool, timestamp: u32) -> Next
-        ensures { λ r. ⌜ r ≡ nextOf (inputs now carried rises timestamp) self ⌝ }
+    // The first half of a step, from the samples A + 2 B + 4 index + 8 ExtIn, the neighbour's carry
+    // and whether the timestamp rises. A halted channel does not count.
+    pub fn counted(self, now: u32, carried: i32, rises: bool) -> Counted
+        ensures { λ r. ⌜ r ≡ countedOf now carried rises self ⌝ }
     {
-        let load = self.selected();
         if self.running {
-            stages::live(
+            return stages::count_on(
                 self.mode,
-                self.mask,
-                load,
                 self.compares[0],
                 self.compares[1],
                 self.count,
                 self.armed,
-                self.second,
                 self.kept,
                 now,
                 carried,
                 rises,
-            )
-        } else {
-            stages::resting(self.mode, self.count, self.armed, self.second)
+            );
+        }
+        Counted {
+            count: self.count,
+            events: 0,
+            carry: 0,
+            armed: self.armed,
         }
     }
 
+    // The second half of a step, after the first made k.
+    pub fn finished(self, k: Counted, now: u32) -> Next
+        ensures { λ r. ⌜ r ≡ finishedOf now k self ⌝ }
+    {
+        if self.running {
+            return stages::close(self.mode, self.mask, self.selected(), k, self.second, now);
+        }
+        stages::resting(self.mode, self.count, self.armed, self.second)
+    }
+
     // The record after a step that made `n` of the small fields.
-    fn settle(mut self, n: Next, now: u32, timestamp: u32) -> Channel
+    pub fn settle(mut self, n: Next, now: u32, timestamp: u32) -> Channel
         ensures { λ r. ⌜ r ≡ settled now timestamp n self ⌝ }
     {
         self.count = n.count;
@@ -184,12 +210,27 @@ impl Channel {
     }
 
     // One step: the samples A + 2 B + 4 index + 8 ExtIn, the neighbour's carry, whether the
-    // timestamp rises, the timestamp.
+    // timestamp rises, the timestamp. The board's step calls the three parts itself.
     pub fn step(self, now: u32, carried: i32, rises: bool, timestamp: u32) -> Channel
         ensures { λ r. ⌜ r ≡ advance (inputs now carried rises timestamp) self ⌝ }
     {
-        let n = self.next(now, carried, rises, timestamp);
+        let k = self.counted(now, carried, rises);
+        let n = self.finished(k, now);
         self.settle(n, now, timestamp)
+    }
+
+    // Every field is in its range, so that the repair changes nothing.
+    pub fn is_sound(self) -> bool
+        ensures { λ r. ⌜ (r ≡ true → repaired self ≡ self) ⌝ }
+    {
+        let reasons = self.reasons;
+        mode::is_good(self.mode)
+            & (self.route < 55)
+            & (self.mask < 512)
+            & (self.kept < 16)
+            & (self.held < 17)
+            & difference::is_carry(self.carry)
+            & are_reasons(reasons)
     }
 
     // A channel handed in: a field outside its range counts as its value at reset.
@@ -207,6 +248,31 @@ impl Channel {
         self.held = words::below(17, 0, self.held);
         self
     }
+}
+
+// An array of a queue with x at a place.
+fn put(a: [u32; 16], at: u32, x: u32) -> [u32; 16]
+    requires { ⌜ at < 16 ⌝ }
+    ensures { λ r. ⌜ r ≡ set a at x ⌝ }
+{
+    [
+        stages::pick(at == 0, x, a[0]),
+        stages::pick(at == 1, x, a[1]),
+        stages::pick(at == 2, x, a[2]),
+        stages::pick(at == 3, x, a[3]),
+        stages::pick(at == 4, x, a[4]),
+        stages::pick(at == 5, x, a[5]),
+        stages::pick(at == 6, x, a[6]),
+        stages::pick(at == 7, x, a[7]),
+        stages::pick(at == 8, x, a[8]),
+        stages::pick(at == 9, x, a[9]),
+        stages::pick(at == 10, x, a[10]),
+        stages::pick(at == 11, x, a[11]),
+        stages::pick(at == 12, x, a[12]),
+        stages::pick(at == 13, x, a[13]),
+        stages::pick(at == 14, x, a[14]),
+        stages::pick(at == 15, x, a[15]),
+    ]
 }
 
 // One less, and 0 of 0.
@@ -238,6 +304,28 @@ fn shift(a: [u32; 16]) -> [u32; 16]
         a[15],
         0,
     ]
+}
+
+// Every place of the reasons' array is in its range.
+fn are_reasons(a: [u32; 16]) -> bool
+    ensures { λ r. ⌜ (r ≡ true → inReasons a ≡ a) ⌝ }
+{
+    (a[0] < 512)
+        & (a[1] < 512)
+        & (a[2] < 512)
+        & (a[3] < 512)
+        & (a[4] < 512)
+        & (a[5] < 512)
+        & (a[6] < 512)
+        & (a[7] < 512)
+        & (a[8] < 512)
+        & (a[9] < 512)
+        & (a[10] < 512)
+        & (a[11] < 512)
+        & (a[12] < 512)
+        & (a[13] < 512)
+        & (a[14] < 512)
+        & (a[15] < 512)
 }
 
 // A reason in its range.

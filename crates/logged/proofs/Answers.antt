@@ -1,4 +1,4 @@
--- The lines of a history's events are those that are printed for them one after the other.
+-- The lines of a history's events are those that are printed for them one after the other, and its answers those of a run.
 -- Assumes nothing.
 use mathlib.Core.Path.{_≡_, refl, sym, ap, _∙_}
 use mathlib.Core.List.{List, [], _++_, append-assoc, append-nil}
@@ -12,12 +12,15 @@ use Rattle.buffers.proofs.Joined.{joined-ext}
 use Rattle.calls.specs.declared.Event.{Event}
 use Rattle.board.specs.Respond.{respond}
 use Rattle.board.specs.Handed.{resetBoard}
-use Rattle.board.specs.Runs.{replies}
+use Rattle.board.specs.Runs.{finish, replies}
 use Rattle.board.specs.declared.Board.{Board}
 use Rattle.reach.proofs.Reach.{demand2}
 use Rattle.records.specs.Records.{eventAt}
-use Rattle.log.specs.Lines.{lineOf, boardAfter, printedFor, printed}
-use Rattle.logged.specs.Whole.{eventsOf, linesOf, answersOf}
+use Rattle.runs.specs.After.{boardAfter}
+use Rattle.runs.specs.Answers.{answerBytes, answersAfter}
+use Rattle.log.specs.Lines.{lineOf, printedFor, printed}
+use Rattle.logged.specs.Claim.{RehearsedAll}
+use Rattle.logged.specs.Whole.{eventsOf, linesOf, answersOf, bytesOf}
 
 -- the board after n events of any sequence
 unfoldable after : (ℕ → Event) → Board → ℕ → Board
@@ -71,3 +74,40 @@ unfolding answersOf printed printedFor lineAt
 answers-printed h =
     ap (linesOf 0 (eventsOf h)) (demand2 .1 (eventsOf h) .same) ∙ lines-joined (length h / 16) 0 (eventAt h) resetBoard
     ∙ joined-ext (length h / 16) (lineAt (eventAt h) resetBoard 0) (printedFor resetBoard h 0) (λ j b. rw (← board-after resetBoard h j))
+
+-- ---- a run
+
+after-none : (ev : ℕ → Event) (b : Board) → answerBytes (respond b (ev 0) .answer) ≡ answerBytes (respond (after ev b 0) (ev 0) .answer)
+unfolding after
+after-none ev b = refl
+
+bytes-joined : (n : ℕ) (ev : ℕ → Event) (b : Board) → bytesOf (replies respond b (tab n ev)) ≡ joined n (λ j. answerBytes (respond (after ev b j) (ev j) .answer))
+unfolding tab bytesOf replies
+bytes-joined zero ev b = sym (joined-none (λ j. answerBytes (respond (after ev b j) (ev j) .answer)))
+bytes-joined (suc n) ev b =
+    let next : Board = respond b (ev 0) .state in
+    let told : ℕ → List ℕ = λ j. answerBytes (respond (after ev b j) (ev j) .answer) in
+    let rest : bytesOf (replies respond next (tab n (λ j. ev (suc j)))) ≡ joined n (λ j. told (suc j)) =
+    bytes-joined n (λ j. ev (suc j)) next
+    ∙ joined-ext n (λ j. answerBytes (respond (after (λ k. ev (suc k)) next j) (ev (suc j)) .answer)) (λ j. told (suc j)) (λ j h. rw (← after-first ev b j)) in
+    let one : answerBytes (respond b (ev 0) .answer) ≡ told 0 = after-none ev b in
+    rw (rest, one) (sym (joined-first n told))
+
+finish-after : (n : ℕ) (ev : ℕ → Event) (b : Board) → finish respond b (tab n ev) ≡ after ev b n
+unfolding tab finish after
+finish-after zero ev b = refl
+finish-after (suc n) ev b = finish-after n (λ j. ev (suc j)) (respond b (ev 0) .state) ∙ sym (after-first ev b n)
+
+pub rehearsed : RehearsedAll
+unfolding answersAfter
+rehearsed h =
+    let n = length h / 16 in
+    let es = eventsOf h in
+    record {
+      answers =
+          joined-ext n (λ j. answerBytes (respond (boardAfter resetBoard h j) (eventAt h j) .answer)) (λ j. answerBytes (respond (after (eventAt h) resetBoard j) (eventAt h j) .answer))
+          (λ j b. rw (board-after resetBoard h j))
+          ∙ sym (bytes-joined n (eventAt h) resetBoard)
+          ∙ ap bytesOf (sym (demand2 .1 es .same));
+      last = board-after resetBoard h n ∙ sym (finish-after n (eventAt h) resetBoard) ∙ sym (demand2 .1 es .sameLast);
+    }

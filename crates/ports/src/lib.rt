@@ -2,7 +2,7 @@
 // them. A function that takes a pin's or an output's number asks that there is one.
 ghost use mathlib.Core.Path.{_≡_};
 ghost use Prim.Native.Nat.{_<_};
-ghost use mathlib.Core.Bool.{cond, _&&_};
+ghost use mathlib.Core.Bool.{cond, true, _&&_};
 ghost use lib.Dec.{ltb};
 ghost use Rattle.words.specs.Bits.{bit, word, putBit};
 ghost use Rattle.ports.specs.Pins.{number, pinAt, putPin, pinLevel, sensedWith, sourced, driven, repairedPins, resetPins};
@@ -159,6 +159,21 @@ impl Pins {
         self
     }
 
+    // Every field is in its range, so that the repair changes nothing.
+    pub fn is_sound(self) -> bool
+        ensures { λ r. ⌜ (r ≡ true → repairedPins self ≡ self) ⌝ }
+    {
+        (self.level < 281474976710656)
+            & (self.driven < 281474976710656)
+            & (self.own < 281474976710656)
+            & (self.safedata < 281474976710656)
+            & (self.safeenable < 281474976710656)
+            & (self.source0 < 281474976710656)
+            & (self.source1 < 281474976710656)
+            & (self.source2 < 281474976710656)
+            & (words::both(words::both(self.source0, self.source1), self.source2) == 0)
+    }
+
     // Pins handed in, with what is outside its range as at reset.
     pub fn repair(self) -> Pins
         ensures { λ r. ⌜ r ≡ repairedPins self ⌝ }
@@ -237,6 +252,13 @@ impl Virtuals {
         ensures { λ r. ⌜ r ≡ virtualLevels safemode self ⌝ }
     {
         guarded(self.own, safemode, self.safedata, self.safeenable) % 64
+    }
+
+    // Every field is in its range, so that the repair changes nothing.
+    pub fn is_sound(self) -> bool
+        ensures { λ r. ⌜ (r ≡ true → repairedVirtuals self ≡ self) ⌝ }
+    {
+        (self.own < 64) & (self.safedata < 64) & (self.safeenable < 64)
     }
 
     // Outputs handed in, without the bits that are no output's.

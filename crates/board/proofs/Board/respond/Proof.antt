@@ -1,92 +1,40 @@
 -- `board::Board::respond` meets its contract.
 -- Assumes nothing.
-use borrow.Author.Tests.{lt-ltb, le-ltb, ne-eqb}
-use Rattle.board.specs.Respond.{respond, respondWith, respondBy}
+use mathlib.Core.Path.{sym, _∙_, ap}
+use Rattle.board.specs.Respond.{outcome}
+use Rattle.board.proofs.Steps.{of-step, of-other}
 use borrow.Author.Needs.{needs}
 use Rattle.board.proofs.Board.respond.Statement.{statement}
 use Rattle.board.proofs.Board.respond.Tie as tie
 
-step-event-requires : tie.Need-step-event-requires
-step-event-requires c κs = search needs
+is-step-requires : tie.Need-is-step-requires
+is-step-requires c κs = search needs
 
-channel-event-requires : tie.Need-channel-event-requires
-channel-event-requires c κs = search needs
+step-requires : tie.Need-step-requires
+step-requires c κs = search needs
 
-pin-event-requires : tie.Need-pin-event-requires
-pin-event-requires c κs = search needs
-
-virtual-event-requires : tie.Need-virtual-event-requires
-virtual-event-requires c κs = search needs
-
-board-event-requires : tie.Need-board-event-requires
-board-event-requires c κs = search needs
-
-refuse-requires : tie.Need-refuse-requires
-refuse-requires c κs = search needs
+number-requires : tie.Need-number-requires
+number-requires c κs = search needs
 
 returns : tie.Need-returns
-unfolding respond respondWith
 returns c =
     let c₁ = c .before in
-    rw (c .step-event .ensures, c₁ .match .keys1)
+    let c₂ = c₁ .before in
+    let c₃ = c₂ .before in
+    let a = c₃ .before .args in
+    rw (c .number .ensures, c₁ .step .ensures, of-step (a .self) (a .e) (sym (c₃ .is-step .ensures) ∙ c₂ .if1 .taken))
+
+call-requires : tie.Need-call-requires
+call-requires c κs = search needs
 
 returns-2 : tie.Need-returns-2
-unfolding respond respondWith
 returns-2 c =
     let c₁ = c .before in
     let c₂ = c₁ .before in
-    rw (c .channel-event .ensures, ne-eqb _ _ (c₂ .match .rest .1), lt-ltb _ _ (c₁ .if1 .taken))
-
-returns-3 : tie.Need-returns-3
-unfolding respond respondWith
-returns-3 c =
-    let c₁ = c .before in
-    let c₂ = c₁ .before in
-    let c₃ = c₂ .before in
-    rw (c .pin-event .ensures, ne-eqb _ _ (c₃ .match .rest .1), le-ltb _ _ (c₂ .if1 .left), lt-ltb _ _ (c₁ .if2 .taken))
-
-returns-4 : tie.Need-returns-4
-unfolding respond respondWith
-returns-4 c =
-    let c₁ = c .before in
-    let c₂ = c₁ .before in
-    let c₃ = c₂ .before in
-    let c₄ = c₃ .before in
-    rw (c .virtual-event .ensures, ne-eqb _ _ (c₄ .match .rest .1), le-ltb _ _ (c₃ .if1 .left), le-ltb _ _ (c₂ .if2 .left), lt-ltb _ _ (c₁ .if3 .taken))
-
-returns-5 : tie.Need-returns-5
-unfolding respond respondWith
-returns-5 c =
-    let c₁ = c .before in
-    let c₂ = c₁ .before in
-    let c₃ = c₂ .before in
-    let c₄ = c₃ .before in
-    let c₅ = c₄ .before in
-    rw (c .board-event .ensures, ne-eqb _ _ (c₅ .match .rest .1), le-ltb _ _ (c₄ .if1 .left), le-ltb _ _ (c₃ .if2 .left), le-ltb _ _ (c₂ .if3 .left), lt-ltb _ _ (c₁ .if4 .taken))
-
-returns-6 : tie.Need-returns-6
-unfolding respond respondWith respondBy
-returns-6 c =
-    let c₁ = c .before in
-    let c₂ = c₁ .before in
-    let c₃ = c₂ .before in
-    let c₄ = c₃ .before in
-    let c₅ = c₄ .before in
-    rw (c .refuse .ensures, ne-eqb _ _ (c₅ .match .rest .1), le-ltb _ _ (c₄ .if1 .left), le-ltb _ _ (c₃ .if2 .left), le-ltb _ _ (c₂ .if3 .left), le-ltb _ _ (c₁ .if4 .left))
+    let a = c₂ .before .args in
+    c .call .ensures ∙ ap outcome (of-other (a .self) (a .e) (sym (c₂ .is-step .ensures) ∙ c₁ .if1 .left))
 
 pub respond-spec : {M : Type 1} → statement M
 respond-spec =
     tie.close
-    (tie.spec
-    step-event-requires
-    channel-event-requires
-    pin-event-requires
-    virtual-event-requires
-    board-event-requires
-    refuse-requires
-    returns
-    returns-2
-    returns-3
-    returns-4
-    returns-5
-    returns-6)
+    (tie.spec is-step-requires step-requires number-requires returns call-requires returns-2)

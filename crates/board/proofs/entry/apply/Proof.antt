@@ -1,14 +1,17 @@
 -- `board::entry::apply` meets its contract.
 -- Assumes nothing.
 use mathlib.Core.Path.{_≡_, ap, sym, _∙_}
+use mathlib.Core.Bool.{true}
+use Rattle.calls.specs.Fields.{isStep}
+use Rattle.calls.specs.Reply.{accept}
 use Rattle.calls.specs.declared.Event.{Event}
-use Rattle.board.specs.Respond.{outcome}
-use Rattle.board.specs.Handed.{repairedBoard, lostCleared}
-use Rattle.board.specs.Respond.{respond}
+use Rattle.board.specs.Respond.{outcome, respond}
+use Rattle.board.specs.Handed.{repairedBoard, lostCleared, applied, kept}
 use Rattle.board.specs.declared.Board.{Board}
 use Rattle.board.specs.declared.Outcome.{Outcome}
 use borrow.Author.Tests.{eq-eqb, ne-eqb}
-use Rattle.board.specs.Handed.{applied, kept}
+use Rattle.board.specs.Step.{stepped}
+use Rattle.board.proofs.Steps.{of-step}
 use borrow.Author.Needs.{needs}
 use Rattle.board.proofs.entry.apply.Statement.{statement}
 use Rattle.board.proofs.entry.apply.Tie as tie
@@ -37,11 +40,22 @@ module _ (b : Board) (e : Event) (o : Outcome) (s : Board) (p : o ≡ outcome (r
   unfolding applied kept
   unchanged h g = rw (ne-eqb _ 0 (λ z. h (result ∙ z)), ne-eqb _ 6 (λ z. g (result ∙ z)), answer)
 
-repair-requires : tie.Need-repair-requires
-repair-requires c κs = search needs
+-- an accepted step on a board that the repair leaves alone
+stepping : (b : Board) (e : Event) → repairedBoard b ≡ b → isStep e ≡ true → outcome (accept (stepped (e .v) (e .w) b)) ≡ outcome (applied b e)
+unfolding applied kept
+stepping b e same is = rw (same, of-step b e is)
 
-respond-requires : tie.Need-respond-requires
-respond-requires c κs = search needs
+is-step-requires : tie.Need-is-step-requires
+is-step-requires c κs = search needs
+
+is-sound-requires : tie.Need-is-sound-requires
+is-sound-requires c κs = search needs
+
+step-requires : tie.Need-step-requires
+step-requires c κs = search needs
+
+number-requires : tie.Need-number-requires
+number-requires c κs = search needs
 
 returns : tie.Need-returns
 returns c =
@@ -50,35 +64,55 @@ returns c =
     let c₃ = c₂ .before in
     let c₄ = c₃ .before in
     let c₅ = c₄ .before in
-    let a = c₅ .args in stored (a .board) (a .event) _ _ (c₃ .respond .ensures) (c₄ .repair .ensures) (c .if1 .taken)
+    let a = c₅ .before .args in
+    rw (c .number .ensures, c₁ .step .ensures)
+    (stepping (a .board) (a .event) (c₃ .is-sound .ensures (c₂ .if2 .taken)) (sym (c₅ .is-step .ensures) ∙ c₄ .if1 .taken))
+
+mended-requires : tie.Need-mended-requires
+mended-requires c κs = search needs
+
+respond-requires : tie.Need-respond-requires
+respond-requires c κs = search needs
+
+returns-2 : tie.Need-returns-2
+returns-2 c =
+    let c₃ = c .before .before .before in
+    let c₄ = c₃ .before in
+    let a = c₄ .before .before .before .args in
+    stored (a .board) (a .event) _ _ (c₃ .respond .ensures) (c₄ .mended .ensures) (c .if3 .taken)
 
 clear-lost-requires : tie.Need-clear-lost-requires
 clear-lost-requires c κs = search needs
 
-returns-2 : tie.Need-returns-2
-returns-2 c =
-    let c₁ = c .before in
-    let c₂ = c₁ .before in
-    let c₃ = c₂ .before in
-    let c₄ = c₃ .before in
-    let c₅ = c₄ .before in
-    let c₆ = c₅ .before in
-    let c₇ = c₆ .before in
-    let c₈ = c₇ .before in
-    let a = c₈ .args in cleared (a .board) (a .event) _ _ (c₆ .respond .ensures) (c₇ .repair .ensures) _ (c .clear-lost .ensures) (c₃ .if1 .left) (c₁ .if2 .taken)
-
 returns-3 : tie.Need-returns-3
 returns-3 c =
     let c₁ = c .before in
-    let c₂ = c₁ .before in
-    let c₃ = c₂ .before in
-    let c₄ = c₃ .before in
-    let c₅ = c₄ .before in
-    let c₆ = c₅ .before in
+    let c₃ = c₁ .before .before in
+    let c₆ = c₃ .before .before .before in
     let c₇ = c₆ .before in
-    let a = c₇ .args in unchanged (a .board) (a .event) _ _ (c₅ .respond .ensures) (c₆ .repair .ensures) (c₂ .if1 .left) (c .if2 .left)
+    let a = c₇ .before .before .before .args in
+    cleared (a .board) (a .event) _ _ (c₆ .respond .ensures) (c₇ .mended .ensures) _ (c .clear-lost .ensures) (c₃ .if3 .left) (c₁ .if4 .taken)
+
+returns-4 : tie.Need-returns-4
+returns-4 c =
+    let c₂ = c .before .before in
+    let c₅ = c₂ .before .before .before in
+    let c₆ = c₅ .before in
+    let a = c₆ .before .before .before .args in
+    unchanged (a .board) (a .event) _ _ (c₅ .respond .ensures) (c₆ .mended .ensures) (c₂ .if3 .left) (c .if4 .left)
 
 pub apply-spec : {M : Type 1} → statement M
 apply-spec =
     tie.close
-    (tie.spec repair-requires respond-requires returns clear-lost-requires returns-2 returns-3)
+    (tie.spec
+    is-step-requires
+    is-sound-requires
+    step-requires
+    number-requires
+    returns
+    mended-requires
+    respond-requires
+    returns-2
+    clear-lost-requires
+    returns-3
+    returns-4)

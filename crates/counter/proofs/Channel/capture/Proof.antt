@@ -6,26 +6,14 @@ use borrow.Author.Needs.{needs}
 use Rattle.counter.proofs.Channel.capture.Statement.{statement}
 use Rattle.counter.proofs.Channel.capture.Tie as tie
 
-cast-at : tie.Need-cast-at
-cast-at c = search needs
+put-requires : tie.Need-put-requires
+put-requires c κs = search needs
 
-mul-self : tie.Need-mul-self
-mul-self c = search needs
+put-requires-2 : tie.Need-put-requires-2
+put-requires-2 c κs = search needs
 
-element-write-self : tie.Need-element-write-self
-element-write-self c = search needs
-
-mul-self-2 : tie.Need-mul-self-2
-mul-self-2 c = search needs
-
-element-write-self-2 : tie.Need-element-write-self-2
-element-write-self-2 c = search needs
-
-mul-self-3 : tie.Need-mul-self-3
-mul-self-3 c = search needs
-
-element-write-self-3 : tie.Need-element-write-self-3
-element-write-self-3 c = search needs
+put-requires-3 : tie.Need-put-requires-3
+put-requires-3 c κs = search needs
 
 add-self : tie.Need-add-self
 add-self c = search needs
@@ -35,27 +23,25 @@ add-self-2 c = search needs
 
 returns : tie.Need-returns
 unfolding captured
-returns c = simp (lt-ltb _ _ (c .if1 .taken))
+returns c =
+    let k = c .before .before in
+    simp (c .put3 .ensures, c .before .put2 .ensures, k .put .ensures, lt-ltb _ _ (k .before .before .before .before .if1 .taken))
 
 returns-2 : tie.Need-returns-2
 unfolding captured
-returns-2 c = simp (le-ltb _ _ (c .before .if1 .left), lt-ltb _ _ (c .if2 .taken))
+returns-2 c = simp (le-ltb _ _ (c .before .before .before .if1 .left), lt-ltb _ _ (c .before .if2 .taken))
 
 returns-3 : tie.Need-returns-3
 unfolding captured
-returns-3 c = simp (le-ltb _ _ (c .before .if1 .left), le-ltb _ _ (c .if2 .left))
+returns-3 c = simp (le-ltb _ _ (c .before .before .if1 .left), le-ltb _ _ (c .if2 .left))
 
 pub capture-spec : {M : Type 1} → statement M
 capture-spec =
     tie.close
     (tie.spec
-    cast-at
-    mul-self
-    element-write-self
-    mul-self-2
-    element-write-self-2
-    mul-self-3
-    element-write-self-3
+    put-requires
+    put-requires-2
+    put-requires-3
     add-self
     add-self-2
     returns
