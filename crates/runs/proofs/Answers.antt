@@ -18,7 +18,7 @@ use Rattle.calls.specs.Fields.{isStep}
 use Rattle.calls.specs.Reply.{number}
 use Rattle.calls.specs.declared.Answer.{Answer}
 use Rattle.calls.specs.declared.Event.{Event}
-use Rattle.board.specs.Respond.{respond, respondWith, stay, outcome}
+use Rattle.board.specs.Respond.{respondWith, stay, outcome}
 use Rattle.board.specs.declared.Board.{Board}
 use Rattle.board.specs.declared.Outcome.{Outcome}
 use Rattle.board.proofs.Steps.{of-step, of-other}
