@@ -42,7 +42,7 @@ impl Board {
     }
 
     // Every field is in its range, so that the repair changes nothing.
-    pub fn is_sound(self) -> bool
+    fn is_sound(self) -> bool
         ensures { λ r. ⌜ (r ≡ true → repairedBoard self ≡ self) ⌝ }
     {
         let cs = self.channels;

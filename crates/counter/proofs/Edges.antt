@@ -9,7 +9,7 @@ use Rattle.words.specs.Bits.{flag}
 use Rattle.words.specs.Table.{tab}
 use Rattle.counter.specs.Advance.{indexFalls, indexRises, extinFalls, extinRises, edgeReasons}
 use Rattle.counter.proofs.Flags.{flag-small}
-use Rattle.counter.proofs.Tables.{tab-at}
+use Rattle.words.proofs.Tables.{tab-at}
 
 -- the reasons, by index and ExtIn before and now
 abbrev pub edges : ℕ → ℕ → ℕ → ℕ → ℕ

@@ -1,6 +1,5 @@
 pub mod Signed
 pub mod Wrap
-pub mod Tables
 pub mod Flags
 pub mod Codes
 pub mod Edges

@@ -18,7 +18,7 @@ use Rattle.scan.specs.Parts.{between, over}
 use Rattle.scan.specs.Numbers.{worth, extended, figure, number}
 use Rattle.scan.proofs.Numbers.{figure-none}
 use Rattle.kinds.specs.Names.{names, name, placeOf, kindOf, letter, noInput, inputAt, inputOf, inputName, pinName}
-use Rattle.kinds.proofs.Tables.{tab-at}
+use Rattle.words.proofs.Tables.{tab-at}
 
 -- ---- the search for a name, place by place
 

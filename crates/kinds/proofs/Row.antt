@@ -10,7 +10,7 @@ use borrow.Author.Tests.{leb-true}
 use Rattle.words.specs.Table.{tab}
 use Rattle.scan.specs.Bytes.{ascii}
 use Rattle.kinds.specs.Names.{names, name}
-use Rattle.kinds.proofs.Tables.{tab-at}
+use Rattle.words.proofs.Tables.{tab-at}
 
 unfoldable pub row : List ℕ
 row =

@@ -18,7 +18,7 @@ use Rattle.text.proofs.Decimal.{length-decimal}
 use Rattle.scan.specs.Numbers.{number}
 use Rattle.kinds.specs.Names.{name, fieldsOf, fieldTable}
 use Rattle.kinds.proofs.Names.{Word, name-word, name-length}
-use Rattle.kinds.proofs.Tables.{tab-at}
+use Rattle.words.proofs.Tables.{tab-at}
 use Rattle.textin.specs.declared.Reading.{Reading}
 use Rattle.textin.specs.Readings.{withField, room, at, starting}
 use Rattle.textout.specs.Prints.{fieldOf, fieldText, fieldsText, has, usual, callText}
