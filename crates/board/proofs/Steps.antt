@@ -8,13 +8,13 @@ use Rattle.words.proofs.Cases.{either}
 use Rattle.calls.specs.Fields.{fits, isStep}
 use Rattle.calls.specs.Reply.{accept}
 use Rattle.calls.specs.declared.Event.{Event}
-use Rattle.board.specs.Respond.{Class, step, channel, pin, virtual, board, unknown, respondBy, respondWith, respond, stay}
+use Rattle.board.specs.Respond.{Class, step, channel, pin, virtual, board, unknown, refusalBy, acceptedBy, respondBy, respondWith, respond, stay}
 use Rattle.board.specs.Step.{stepped}
 use Rattle.board.specs.declared.Board.{Board}
 
 -- an accepted step
 pub of-step : (b : Board) (e : Event) → isStep e ≡ true → respond b e ≡ accept (stepped (e .v) (e .w) b)
-unfolding respond respondWith respondBy
+unfolding respond respondWith respondBy refusalBy acceptedBy
 of-step b e h =
     let both = and-eq-true-iff (eqb (e .kind) 0) (fits e) .0 h in
     rw (both .0, both .1)
@@ -25,7 +25,7 @@ record Same (b : Board) (e : Event) (c : Class) : Type 0 where
 
 others : (b : Board) (e : Event) (k : ℕ) →
     Same b e (cond (ltb k 13) channel (cond (ltb k 18) pin (cond (ltb k 22) virtual (cond (ltb k 30) board unknown))))
-unfolding respondBy
+unfolding respondBy acceptedBy
 others b e k =
     either (Same b e) (ltb k 13) (record { same = refl })
     (either (Same b e) (ltb k 18) (record { same = refl })
@@ -34,7 +34,7 @@ others b e k =
 
 -- a step that is refused
 refused : (b : Board) (e : Event) → fits e ≡ false → respondBy stay step b e ≡ respondBy stepped step b e
-unfolding respondBy
+unfolding respondBy refusalBy acceptedBy
 refused b e h = rw h
 
 by-class : (b : Board) (e : Event) (s t : Bool) (c : Class) → fits e ≡ t → (s && t) ≡ false → Same b e c → respondBy stay (cond s step c) b e ≡ respondBy stepped (cond s step c) b e

@@ -9,7 +9,7 @@ use lib.IntN.{ℤ, pos}
 use Rattle.words.specs.Bits.{bit, word}
 use Rattle.words.specs.Table.{tab}
 use Rattle.counter.specs.Mode.{XS, K, IP}
-use Rattle.counter.specs.Quadrature.{samples}
+use Rattle.counter.specs.Samples.{samples}
 use Rattle.counter.specs.Advance.{Inputs, inputs, advance}
 use Rattle.counter.specs.Repair.{noChannel}
 use Rattle.counter.specs.declared.Channel.{Channel}

@@ -1,4 +1,5 @@
--- Document 01: every event on a board whose fields are in their ranges. The refusals 2, 1 and 3 are decided here, in this order; 4, 7, 6 and 5 by the calls.
+-- Document 01: every event on a board whose fields are in their ranges. The refusals 2, 1 and 3 are decided here, in this order; 4, 7, 6 and 5 by
+-- the calls.
 -- Assumes nothing.
 use mathlib.Core.Bool.{cond}
 use mathlib.Core.List.{List}
@@ -70,20 +71,41 @@ onCore f b =
     let r : Reply Core = f (b .core) in
     reply (withCore (r .state) b) (r .answer)
 
+-- ---- the refusals 2, 1 and 3, in this order
+
+-- 1 where the member is not one of n, 3 where a field does not fit, else 0
+unfoldable pub refusalIn : ℕ → Event → ℕ
+refusalIn n e = cond (ltb (e .member) n) (cond (fits e) 0 3) 1
+
+-- the member of a step is one of its fields
+unfoldable pub refusalBy : Class → Event → ℕ
+refusalBy step e = cond (fits e) 0 3
+refusalBy channel e = refusalIn 6 e
+refusalBy pin e = refusalIn 48 e
+refusalBy virtual e = refusalIn 6 e
+refusalBy board e = refusalIn 1 e
+refusalBy unknown e = 2
+
+abbrev pub refusal : Event → ℕ
+refusal e = refusalBy (classOf (e .kind)) e
+
+-- r where the checks found nothing, else their result and the board as it was
+abbrev pub checked : ℕ → Board → Reply Board → Reply Board
+checked n b r = cond (eqb n 0) r (refuse n b)
+
 -- ---- every event
 
--- 1 where the member is not one of n, then 3 where a field does not fit
-abbrev pub checked : ℕ → Event → Board → Reply Board → Reply Board
-checked n e b r = cond (ltb (e .member) n) (cond (fits e) r (refuse 3 b)) (refuse 1 b)
+-- past the checks, by class, with a step that `stepOf` makes of V and W
+unfoldable pub acceptedBy : (ℕ → ℕ → Board → Board) → Class → Board → Event → Reply Board
+acceptedBy stepOf step b e = accept (stepOf (e .v) (e .w) b)
+acceptedBy stepOf channel b e = onChannel (e .member) (channelCall (b .core .clock .timestamp) e) b
+acceptedBy stepOf pin b e = onPin (e .member) (pinCall (b .core .safety .writes) e) b
+acceptedBy stepOf virtual b e = onVirtual (e .member) (virtualCall (b .core .safety .writes) e) b
+acceptedBy stepOf board b e = onCore (boardCall e) b
+acceptedBy stepOf unknown b e = refuse 2 b
 
--- the answer of an event by its class, with a step that `stepOf` makes of V and W
 unfoldable pub respondBy : (ℕ → ℕ → Board → Board) → Class → Board → Event → Reply Board
-respondBy stepOf step b e = cond (fits e) (accept (stepOf (e .v) (e .w) b)) (refuse 3 b)
-respondBy stepOf channel b e = checked 6 e b (onChannel (e .member) (channelCall (b .core .clock .timestamp) e) b)
-respondBy stepOf pin b e = checked 48 e b (onPin (e .member) (pinCall (b .core .safety .writes) e) b)
-respondBy stepOf virtual b e = checked 6 e b (onVirtual (e .member) (virtualCall (b .core .safety .writes) e) b)
-respondBy stepOf board b e = checked 1 e b (onCore (boardCall e) b)
-respondBy stepOf unknown b e = refuse 2 b
+respondBy stepOf C b e = checked (refusalBy C e) b (acceptedBy stepOf C b e)
 
 unfoldable pub respondWith : (ℕ → ℕ → Board → Board) → Board → Event → Reply Board
 respondWith stepOf b e = respondBy stepOf (classOf (e .kind)) b e

@@ -5,6 +5,7 @@ ghost use Rattle.board.specs.Respond.{outcome};
 ghost use Rattle.board.specs.Handed.{resetBoard, repairedBoard, lostCleared, applied};
 ghost use Rattle.counter.specs.Repair.{repaired};
 use crate::Board;
+use crate::CHANNELS;
 use crate::Outcome;
 use calls::Event;
 use counter::Channel;
@@ -71,7 +72,7 @@ impl Board {
         ensures { λ r. ⌜ r ≡ lostCleared member self ⌝ }
     {
         let m = member as usize;
-        if m < crate::CHANNELS {
+        if m < CHANNELS {
             let mut c = self.channels[m];
             c.lost = 0;
             self.channels[m] = c;
@@ -125,7 +126,7 @@ pub fn reset() -> Board
 {
     let c = counter::reset();
     Board {
-        channels: [c; 6],
+        channels: [c; CHANNELS],
         pins: ports::reset_pins(),
         virtuals: ports::reset_virtuals(),
         core: control::reset(),

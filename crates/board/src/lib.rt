@@ -13,13 +13,14 @@ pub use entry::apply;
 pub use entry::reset;
 use ports::Pins;
 use ports::Virtuals;
+pub use respond::refusal;
 
 // The number of channels.
-const CHANNELS: usize = 6;
+pub const CHANNELS: usize = 6;
 
 #[repr(C)]
 pub struct Board {
-    pub channels: [Channel; 6],
+    pub channels: [Channel; CHANNELS],
     pub pins: Pins,
     pub virtuals: Virtuals,
     pub core: Core,

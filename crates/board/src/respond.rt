@@ -1,10 +1,20 @@
 // Every event on a board whose fields are in their ranges.
 ghost use mathlib.Core.Path.{_≡_};
 ghost use Rattle.calls.specs.Reply.{refuse};
-ghost use Rattle.board.specs.Respond.{step, channel, pin, virtual, board, respondBy, respondWith, respond, stay, outcome};
+ghost use Prim.Native.Nat.{_<_};
+ghost use Rattle.board.specs.Respond.{step, channel, pin, virtual, board, refusalIn, refusalBy, refusal, acceptedBy, respondWith, respond, stay, outcome};
 use crate::Board;
 use crate::Outcome;
 use calls::Event;
+
+// How many members the calls of a class have.
+const CHANNEL_MEMBERS: u8 = crate::CHANNELS as u8;
+
+const PIN_MEMBERS: u8 = ports::PINS as u8;
+
+const VIRTUAL_MEMBERS: u8 = ports::VIRTUALS as u8;
+
+const BOARD_MEMBERS: u8 = 1;
 
 impl Board {
     // An event that changes nothing is answered with its result.
@@ -17,115 +27,87 @@ impl Board {
         }
     }
 
-    // Kind 0, with no step.
-    fn kept_event(self, e: Event) -> Outcome
-        ensures { λ r. ⌜ r ≡ outcome (respondBy stay step self e) ⌝ }
-    {
-        if calls::fits(e) {
-            return self.refuse(0);
-        }
-        self.refuse(3)
-    }
-
-    // Calls 1 to 12.
+    // Calls 1 to 12, past the checks.
     fn channel_event(mut self, e: Event) -> Outcome
-        ensures { λ r. ⌜ r ≡ outcome (respondBy stay channel self e) ⌝ }
+        requires { ⌜ e .member < 6 ⌝ }
+        ensures { λ r. ⌜ r ≡ outcome (acceptedBy stay channel self e) ⌝ }
     {
         let m = e.member as usize;
-        if crate::CHANNELS <= m {
-            return self.refuse(1);
+        let c = self.channels[m];
+        let r = calls::channel_call(self.core.clock.timestamp, e, c);
+        let next = r.channel;
+        let answer = r.answer;
+        self.channels[m] = next;
+        Outcome {
+            board: self,
+            answer: answer,
         }
-        if calls::fits(e) {
-            let c = self.channels[m];
-            let r = calls::channel_call(self.core.clock.timestamp, e, c);
-            let next = r.channel;
-            let answer = r.answer;
-            self.channels[m] = next;
-            return Outcome {
-                board: self,
-                answer: answer,
-            };
-        }
-        self.refuse(3)
     }
 
-    // Calls 13 to 17.
+    // Calls 13 to 17, past the checks.
     fn pin_event(mut self, e: Event) -> Outcome
-        ensures { λ r. ⌜ r ≡ outcome (respondBy stay pin self e) ⌝ }
+        requires { ⌜ e .member < 48 ⌝ }
+        ensures { λ r. ⌜ r ≡ outcome (acceptedBy stay pin self e) ⌝ }
     {
         let m = e.member as u64;
-        if ports::PINS <= m {
-            return self.refuse(1);
+        let pins = self.pins;
+        let r = calls::pin_call(self.core.safety.writes, e, pins.at(m));
+        let next = r.pin;
+        let answer = r.answer;
+        self.pins = pins.put(m, next);
+        Outcome {
+            board: self,
+            answer: answer,
         }
-        if calls::fits(e) {
-            let pins = self.pins;
-            let r = calls::pin_call(self.core.safety.writes, e, pins.at(m));
-            let next = r.pin;
-            let answer = r.answer;
-            self.pins = pins.put(m, next);
-            return Outcome {
-                board: self,
-                answer: answer,
-            };
-        }
-        self.refuse(3)
     }
 
-    // Calls 18 to 21.
+    // Calls 18 to 21, past the checks.
     fn virtual_event(mut self, e: Event) -> Outcome
-        ensures { λ r. ⌜ r ≡ outcome (respondBy stay virtual self e) ⌝ }
+        requires { ⌜ e .member < 6 ⌝ }
+        ensures { λ r. ⌜ r ≡ outcome (acceptedBy stay virtual self e) ⌝ }
     {
         let m = e.member as u64;
-        if ports::VIRTUALS <= m {
-            return self.refuse(1);
+        let outputs = self.virtuals;
+        let r = calls::virtual_call(self.core.safety.writes, e, outputs.at(m));
+        let next = r.output;
+        let answer = r.answer;
+        self.virtuals = outputs.put(m, next);
+        Outcome {
+            board: self,
+            answer: answer,
         }
-        if calls::fits(e) {
-            let outputs = self.virtuals;
-            let r = calls::virtual_call(self.core.safety.writes, e, outputs.at(m));
-            let next = r.output;
-            let answer = r.answer;
-            self.virtuals = outputs.put(m, next);
-            return Outcome {
-                board: self,
-                answer: answer,
-            };
-        }
-        self.refuse(3)
     }
 
-    // Calls 22 to 29.
+    // Calls 22 to 29, past the checks.
     fn board_event(mut self, e: Event) -> Outcome
-        ensures { λ r. ⌜ r ≡ outcome (respondBy stay board self e) ⌝ }
+        ensures { λ r. ⌜ r ≡ outcome (acceptedBy stay board self e) ⌝ }
     {
-        if 1 <= e.member {
-            return self.refuse(1);
+        let core = self.core;
+        let r = calls::board_call(e, core);
+        let next = r.core;
+        let answer = r.answer;
+        self.core = next;
+        Outcome {
+            board: self,
+            answer: answer,
         }
-        if calls::fits(e) {
-            let core = self.core;
-            let r = calls::board_call(e, core);
-            let next = r.core;
-            let answer = r.answer;
-            self.core = next;
-            return Outcome {
-                board: self,
-                answer: answer,
-            };
-        }
-        self.refuse(3)
     }
 
     // Every event but a step that is accepted, which is answered with 0 and no step here.
     pub fn call(self, e: Event) -> Outcome
         ensures { λ r. ⌜ r ≡ outcome (respondWith stay self e) ⌝ }
     {
+        let result = refusal(e);
+        if result != 0 {
+            return self.refuse(result);
+        }
         let kind = e.kind;
         match kind {
-            0 => self.kept_event(e),
+            0 => self.refuse(0),
             1..=12 => self.channel_event(e),
             13..=17 => self.pin_event(e),
             18..=21 => self.virtual_event(e),
-            22..=29 => self.board_event(e),
-            _ => self.refuse(2),
+            _ => self.board_event(e),
         }
     }
 
@@ -140,5 +122,34 @@ impl Board {
             };
         }
         self.call(e)
+    }
+}
+
+// 3 where a field does not fit, else 0.
+fn unfit(e: Event) -> u32
+    ensures { λ r. ⌜ r ≡ refusalBy step e ⌝ }
+{
+    if calls::fits(e) { 0 } else { 3 }
+}
+
+// 1 where the member is not one of n, 3 where a field does not fit, else 0.
+fn refusal_in(n: u8, e: Event) -> u32
+    ensures { λ r. ⌜ r ≡ refusalIn n e ⌝ }
+{
+    if e.member < n { unfit(e) } else { 1 }
+}
+
+// The result of the checks on kind, member and fields: 2, 1, 3, or 0 where they find nothing.
+pub fn refusal(e: Event) -> u32
+    ensures { λ r. ⌜ r ≡ refusal e ⌝ }
+{
+    let kind = e.kind;
+    match kind {
+        0 => unfit(e),
+        1..=12 => refusal_in(CHANNEL_MEMBERS, e),
+        13..=17 => refusal_in(PIN_MEMBERS, e),
+        18..=21 => refusal_in(VIRTUAL_MEMBERS, e),
+        22..=29 => refusal_in(BOARD_MEMBERS, e),
+        _ => 2,
     }
 }

@@ -1,28 +1,25 @@
 // A step, in the six parts of document 01.
 ghost use mathlib.Core.Path.{_≡_};
-ghost use Prim.Native.Nat.{_<_, _+_, _*_, _/_};
-ghost use Rattle.words.specs.Bits.{bit};
-ghost use Rattle.counter.specs.Halves.{countedOf};
+ghost use Prim.Native.Nat.{_<_};
 ghost use Rattle.board.specs.Inputs.{extouts, indexOf, carriedBy, samplesOf, allNext};
 ghost use Rattle.board.specs.Step.{sceneOf, coreNext, stepped};
 use crate::Board;
+use crate::CHANNELS;
 use crate::Scene;
 use control::Clock;
 use control::Core;
 use counter::Channel;
-use counter::Counted;
+
+// The pin that can trigger safemode.
+const TRIGGER: u64 = 47;
 
 // Bit c is ExtOut of channel c.
-fn extouts(cs: [Channel; 6]) -> u64
+fn extouts(cs: [Channel; CHANNELS]) -> u64
     ensures { λ r. ⌜ r ≡ extouts cs ⌝ }
 {
-    let low = words::flag(cs[0].extout)
-        + 2 * words::flag(cs[1].extout)
-        + 4 * words::flag(cs[2].extout);
-    let high = words::flag(cs[3].extout)
-        + 2 * words::flag(cs[4].extout)
-        + 4 * words::flag(cs[5].extout);
-    (low + 8 * high) as u64
+    let low = words::flags(cs[0].extout, cs[1].extout, cs[2].extout, cs[3].extout);
+    let high = words::flags(cs[4].extout, cs[5].extout, false, false);
+    (low + 16 * high) as u64
 }
 
 // The index, as XS gives it.
@@ -45,7 +42,11 @@ fn index_of(x: u32, ix: bool, outs: u64, ticks: u64) -> bool
 fn carried_by(mode: u32, carry: i32) -> i32
     ensures { λ r. ⌜ r ≡ carriedBy mode carry ⌝ }
 {
-    if mode / 16 % 8 == 4 { carry } else { 0 }
+    if counter::mode::k(mode) == 4 {
+        carry
+    } else {
+        0
+    }
 }
 
 // The samples of channel c: A + 2 B + 4 index + 8 ExtIn.
@@ -56,22 +57,15 @@ fn samples(s: Scene, c: u64, mode: u32, route: u32) -> u32
     let a = words::bit(s.lines, 3 * c);
     let b = words::bit(s.lines, 3 * c + 1);
     let ix = words::bit(s.lines, 3 * c + 2);
-    let index = index_of(mode % 16, ix, s.outs, s.ticks);
+    let index = index_of(counter::mode::xs(mode), ix, s.outs, s.ticks);
     let level = ports::route_level(s.levels, s.virtuals, route as u64);
-    let extin = level != (mode / 134217728 % 2 == 1);
-    words::flag(a) + 2 * words::flag(b) + 4 * words::flag(index) + 8 * words::flag(extin)
-}
-
-// The first half of a channel's step, with the neighbour's carry.
-fn count(me: Channel, now: u32, carry: i32, rises: bool) -> Counted
-    ensures { λ r. ⌜ r ≡ countedOf now (carriedBy (me .mode) carry) rises me ⌝ }
-{
-    me.counted(now, carried_by(me.mode, carry), rises)
+    let extin = level != counter::mode::ip(mode);
+    words::flags(a, b, index, extin)
 }
 
 // Part 5: each channel from the old array, into a new one. The calls are written out six times, so
 // that each channel's record stays where it is (docs/SPEED.md).
-fn advance_all(old: [Channel; 6], s: Scene) -> [Channel; 6]
+fn advance_all(old: [Channel; CHANNELS], s: Scene) -> [Channel; CHANNELS]
     ensures { λ r. ⌜ r ≡ allNext s old ⌝ }
 {
     let o0 = old[0];
@@ -81,29 +75,23 @@ fn advance_all(old: [Channel; 6], s: Scene) -> [Channel; 6]
     let o4 = old[4];
     let o5 = old[5];
     let w0 = samples(s, 0, o0.mode, o0.route);
-    let k0 = count(o0, w0, o5.carry, s.rises);
-    let n0 = o0.finished(k0, w0);
-    let c0 = o0.settle(n0, w0, s.timestamp);
+    let s0 = o0.look(w0, carried_by(o0.mode, o5.carry), s.rises);
+    let c0 = o0.step(w0, s.timestamp, s0);
     let w1 = samples(s, 1, o1.mode, o1.route);
-    let k1 = count(o1, w1, o0.carry, s.rises);
-    let n1 = o1.finished(k1, w1);
-    let c1 = o1.settle(n1, w1, s.timestamp);
+    let s1 = o1.look(w1, carried_by(o1.mode, o0.carry), s.rises);
+    let c1 = o1.step(w1, s.timestamp, s1);
     let w2 = samples(s, 2, o2.mode, o2.route);
-    let k2 = count(o2, w2, o1.carry, s.rises);
-    let n2 = o2.finished(k2, w2);
-    let c2 = o2.settle(n2, w2, s.timestamp);
+    let s2 = o2.look(w2, carried_by(o2.mode, o1.carry), s.rises);
+    let c2 = o2.step(w2, s.timestamp, s2);
     let w3 = samples(s, 3, o3.mode, o3.route);
-    let k3 = count(o3, w3, o2.carry, s.rises);
-    let n3 = o3.finished(k3, w3);
-    let c3 = o3.settle(n3, w3, s.timestamp);
+    let s3 = o3.look(w3, carried_by(o3.mode, o2.carry), s.rises);
+    let c3 = o3.step(w3, s.timestamp, s3);
     let w4 = samples(s, 4, o4.mode, o4.route);
-    let k4 = count(o4, w4, o3.carry, s.rises);
-    let n4 = o4.finished(k4, w4);
-    let c4 = o4.settle(n4, w4, s.timestamp);
+    let s4 = o4.look(w4, carried_by(o4.mode, o3.carry), s.rises);
+    let c4 = o4.step(w4, s.timestamp, s4);
     let w5 = samples(s, 5, o5.mode, o5.route);
-    let k5 = count(o5, w5, o4.carry, s.rises);
-    let n5 = o5.finished(k5, w5);
-    let c5 = o5.settle(n5, w5, s.timestamp);
+    let s5 = o5.look(w5, carried_by(o5.mode, o4.carry), s.rises);
+    let c5 = o5.step(w5, s.timestamp, s5);
     [c0, c1, c2, c3, c4, c5]
 }
 
@@ -145,7 +133,7 @@ impl Board {
         let earlier = self.pins;
         let pins = earlier.sense(w);
         let own = self.core;
-        let core = advance_core(own, words::bit(pins.level, 47));
+        let core = advance_core(own, words::bit(pins.level, TRIGGER));
         let outputs = self.virtuals;
         let virtuals = outputs.levels(own.safety.safemode);
         let old = self.channels;

@@ -6,6 +6,9 @@ ghost use lib.ListN.{length, replicate};
 ghost use Rattle.buffers.specs.Pieces.{put};
 ghost use Rattle.buffers.specs.Little.{little, field};
 
+// The bytes of a record, in which every history, block and run is counted.
+pub const RECORD: usize = 16;
+
 // All of src, from place `at` on.
 pub fn copy_to(src: &[u8], out: &mut [u8], at: usize)
     requires { ⌜ at + length (now src) ≤ length (now out) ⌝ }

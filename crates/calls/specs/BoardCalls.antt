@@ -1,9 +1,9 @@
 -- Document 01, "One event", calls 22 to 29, each on the board's own part. The field checks are past.
 -- Assumes nothing.
 use mathlib.Core.Bool.{false, cond}
-use Prim.Native.Nat.{ℕ, _+_, _*_}
+use Prim.Native.Nat.{ℕ}
 use lib.Dec.{eqb}
-use Rattle.words.specs.Bits.{flag}
+use Rattle.words.specs.Bits.{flags}
 use Rattle.control.specs.Watchdog.{kicked, switched, withInterval}
 use Rattle.control.specs.Safety.{withControl, withWrites, withSafemode}
 use Rattle.control.specs.Whole.{withWatchdog, withSafety}
@@ -18,7 +18,7 @@ intervalWrite v k = cond (k .watchdog .enabled) (refuse 7 k) (accept (withWatchd
 -- 29 status: bit 0 safemode, 1 expired, 2 SWE, 3 watchdog enabled
 abbrev pub boardStatus : Core → Reply Core
 boardStatus k =
-    tell (flag (k .safety .safemode) + 2 * flag (k .watchdog .expired) + 4 * flag (k .safety .writes) + 8 * flag (k .watchdog .enabled)) k
+    tell (flags (k .safety .safemode) (k .watchdog .expired) (k .safety .writes) (k .watchdog .enabled)) k
 
 -- 22 control, 23 SWE, 24 clear safemode, 25 interval, 26 watchdog enable, 27 kick, 28 timestamp, 29 status
 unfoldable pub boardCall : Event → Core → Reply Core

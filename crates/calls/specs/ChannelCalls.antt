@@ -2,10 +2,10 @@
 -- Assumes nothing.
 use mathlib.Core.Bool.{false, cond}
 use mathlib.Core.List.{List}
-use Prim.Native.Nat.{ℕ, _+_, _*_}
+use Prim.Native.Nat.{ℕ}
 use lib.Dec.{eqb, ltb}
 use lib.ListN.{getD, set}
-use Rattle.words.specs.Bits.{flag}
+use Rattle.words.specs.Bits.{flags}
 use Rattle.counter.specs.Setters.{withMode, withPreloads, withCompares, withRoute, withMask, withRun, withLost}
 use Rattle.counter.specs.Queue.{captured, popped}
 use Rattle.counter.specs.Preload.{preloaded, started}
@@ -67,7 +67,7 @@ snapshotRead c =
 
 -- 12 status: bit 0 running, 1 armed, 2 selected preload
 abbrev pub channelStatus : Channel → Reply Channel
-channelStatus c = tell (flag (c .running) + 2 * flag (c .armed) + 4 * flag (c .second)) c
+channelStatus c = tell (flags (c .running) (c .armed) (c .second) false) c
 
 -- the call of an event, at the board's timestamp
 unfoldable pub channelCall : ℕ → Event → Channel → Reply Channel

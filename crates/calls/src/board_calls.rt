@@ -122,10 +122,12 @@ fn timestamp_read(k: Core) -> CoreReply
 fn status(k: Core) -> CoreReply
     ensures { λ r. ⌜ r ≡ coreReply (boardStatus k) ⌝ }
 {
-    let bits = words::flag(k.safety.safemode)
-        + 2 * words::flag(k.watchdog.expired)
-        + 4 * words::flag(k.safety.writes)
-        + 8 * words::flag(k.watchdog.enabled);
+    let bits = words::flags(
+        k.safety.safemode,
+        k.watchdog.expired,
+        k.safety.writes,
+        k.watchdog.enabled,
+    );
     tell(k, bits)
 }
 

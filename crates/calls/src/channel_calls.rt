@@ -7,6 +7,9 @@ use crate::ChannelReply;
 use crate::Event;
 use counter::Channel;
 
+// Reason bit 7: a soft snapshot.
+const SOFT: u32 = 128;
+
 // The call is refused, and the channel stays as it was.
 fn refuse(c: Channel, result: u32) -> ChannelReply
     ensures { λ r. ⌜ r ≡ channelReply (refuse result c) ⌝ }
@@ -126,7 +129,7 @@ fn halt(c: Channel) -> ChannelReply
 fn snapshot(c: Channel, timestamp: u32) -> ChannelReply
     ensures { λ r. ⌜ r ≡ channelReply (snapshot timestamp c) ⌝ }
 {
-    accept(c.capture(c.count, timestamp, 128))
+    accept(c.capture(c.count, timestamp, SOFT))
 }
 
 // Call 9.
@@ -175,7 +178,7 @@ fn snapshot_read(c: Channel) -> ChannelReply
 fn status(c: Channel) -> ChannelReply
     ensures { λ r. ⌜ r ≡ channelReply (channelStatus c) ⌝ }
 {
-    let bits = words::flag(c.running) + 2 * words::flag(c.armed) + 4 * words::flag(c.second);
+    let bits = words::flags(c.running, c.armed, c.second, false);
     tell(c, bits)
 }
 

@@ -4,14 +4,23 @@ ghost use mathlib.Core.Bool.{cond};
 ghost use Rattle.calls.specs.Fields.{limit, fits, isStep};
 use crate::Event;
 
-// V is below this, kind by kind.
-const LIMITS: [u64; 30] = [
-    262144, // 0 step
-    268435456, // 1 mode write
-    4294967296, // 2 preload write
-    4294967296, // 3 compare write
-    55, // 4 route
-    512, // 5 mask
+// The kinds, 0 to 29.
+const KINDS: usize = 30;
+
+// V of a step is below this, three lines of six channels.
+const LINES: u32 = 0x4_0000;
+
+// Every V is below this.
+const ANY: u64 = 0x1_0000_0000;
+
+// V is below this, kind by kind: 2 for one bit, 1 where V is unused.
+const LIMITS: [u64; KINDS] = [
+    LINES as u64, // 0 step
+    counter::mode::WORDS as u64, // 1 mode write
+    ANY, // 2 preload write
+    ANY, // 3 compare write
+    counter::ROUTES as u64, // 4 route
+    counter::REASONS as u64, // 5 mask
     1, // 6 start
     1, // 7 halt
     1, // 8 soft snapshot
@@ -19,7 +28,7 @@ const LIMITS: [u64; 30] = [
     1, // 10 count read
     1, // 11 snapshot read
     1, // 12 status
-    7, // 13 source
+    ports::SOURCES as u64, // 13 source
     2, // 14 data
     2, // 15 safe data
     2, // 16 safe enable
@@ -28,10 +37,10 @@ const LIMITS: [u64; 30] = [
     2, // 19 safe data
     2, // 20 safe enable
     1, // 21 data read
-    8, // 22 control
+    control::CONTROLS as u64, // 22 control
     2, // 23 SWE
     1, // 24 clear safemode
-    4294967296, // 25 interval
+    ANY, // 25 interval
     2, // 26 watchdog enable
     1, // 27 kick
     1, // 28 timestamp
@@ -43,7 +52,7 @@ fn limit(kind: u8) -> u64
     ensures { λ r. ⌜ r ≡ limit kind ⌝ }
 {
     let at = kind as usize;
-    if at < 30 { LIMITS[at] } else { 0 }
+    if at < KINDS { LIMITS[at] } else { 0 }
 }
 
 // `x` where `b`, else `y`.
@@ -58,7 +67,7 @@ pub fn fits(e: Event) -> bool
     ensures { λ r. ⌜ r ≡ fits e ⌝ }
 {
     let selectors = pick((e.kind == 2) | (e.kind == 3), 2, 1);
-    let levels = pick(e.kind == 0, 281474976710656, 1);
+    let levels = pick(e.kind == 0, words::WORDS, 1);
     let most = limit(e.kind);
     let good = counter::mode::is_good(e.v);
     (e.spare == 0)
@@ -77,7 +86,7 @@ pub fn is_step(e: Event) -> bool
     (e.kind == 0)
         & ((e.spare == 0)
             & (e.selector < 1)
-            & (e.w < 281474976710656)
-            & (e.v < 262144)
+            & (e.w < words::WORDS)
+            & (e.v < LINES)
             & (e.member == 0))
 }

@@ -1,15 +1,22 @@
 // The board's own part: the clock with its ticks, the watchdog, and safemode with what sets it.
 ghost use mathlib.Core.Path.{_≡_};
 ghost use mathlib.Core.Bool.{true};
-ghost use Prim.Native.Nat.{_+_, _<_};
-ghost use Rattle.words.specs.Bits.{word};
-ghost use Rattle.control.specs.Clock.{prescalerNext, risesAt, advanced, tick, ticks, repairedClock};
+ghost use Rattle.control.specs.Clock.{prescalerNext, risesAt, advanced, ticks, repairedClock};
 ghost use Rattle.control.specs.Watchdog.{watched, kicked, switched, repairedWatchdog};
-ghost use Rattle.control.specs.Safety.{guarded, repairedSafety};
+ghost use Rattle.control.specs.Safety.{pinTriggers, activeLevel, watchdogTriggers, guarded, repairedSafety};
 ghost use Rattle.control.specs.Whole.{repairedCore, resetCore};
 
 // The steps of the prescaler's round, 10 seconds.
 const PRESCALE: u32 = 500_000_000;
+
+// The steps of a microsecond: the timestamp rises.
+const MICROSECOND: u32 = 50;
+
+// The watchdog's interval at reset.
+const INTERVAL: u32 = 50_000_000;
+
+// Control words are below this, 3 bits.
+pub const CONTROLS: u32 = 8;
 
 #[repr(C)]
 pub struct Clock {
@@ -46,7 +53,7 @@ impl Clock {
         ensures { λ r. ⌜ r ≡ advanced self ⌝ }
     {
         let p = next_prescaler(self.prescaler);
-        if p % 50 == 0 {
+        if rises_at(p) {
             Clock {
                 prescaler: p,
                 timestamp: std::num::wrapping_add_u32(self.timestamp, 1),
@@ -83,18 +90,23 @@ fn next_prescaler(p: u32) -> u32
 pub fn rises_at(p: u32) -> bool
     ensures { λ r. ⌜ r ≡ risesAt p ⌝ }
 {
-    p % 50 == 0
+    p % MICROSECOND == 0
 }
 
 // The eight ticks: bit x is the tick of XS 8 + x.
 pub fn ticks(p: u32) -> u64
     ensures { λ r. ⌜ r ≡ ticks p ⌝ }
 {
-    if p % 50 != 0 {
+    if !rises_at(p) {
         return 0;
     }
-    let slow = slow_ticks(p);
-    let fast = fast_ticks(p);
+    let slow = words::flags(
+        p % PRESCALE == 0,
+        p % 50_000_000 == 0,
+        p % 5_000_000 == 0,
+        p % 500_000 == 0,
+    );
+    let fast = words::flags(p % 50_000 == 0, p % 5_000 == 0, p % 500 == 0, p % 50 == 0);
     (slow + 16 * fast) as u64
 }
 
@@ -141,10 +153,31 @@ impl Watchdog {
         ensures { λ r. ⌜ r ≡ repairedWatchdog self ⌝ }
     {
         if self.interval == 0 {
-            self.interval = 50_000_000;
+            self.interval = INTERVAL;
         }
         self
     }
+}
+
+// Control bit 0: pin 47 triggers safemode.
+fn pin_triggers(c: u32) -> bool
+    ensures { λ r. ⌜ r ≡ pinTriggers c ⌝ }
+{
+    c % 2 == 1
+}
+
+// Control bit 1: the level at which pin 47 triggers.
+fn active_level(c: u32) -> bool
+    ensures { λ r. ⌜ r ≡ activeLevel c ⌝ }
+{
+    (c >> 1) % 2 == 1
+}
+
+// Control bit 2: an expired watchdog triggers safemode.
+fn watchdog_triggers(c: u32) -> bool
+    ensures { λ r. ⌜ r ≡ watchdogTriggers c ⌝ }
+{
+    (c >> 2) % 2 == 1
 }
 
 impl Safety {
@@ -154,8 +187,8 @@ impl Safety {
     {
         let c = self.control;
         self.safemode = self.safemode
-            | ((c / 4 % 2 == 1) & expired)
-            | ((c % 2 == 1) & (pin47 == (c / 2 % 2 == 1)));
+            | (watchdog_triggers(c) & expired)
+            | (pin_triggers(c) & (pin47 == active_level(c)));
         self
     }
 
@@ -163,7 +196,7 @@ impl Safety {
     pub fn repair(mut self) -> Safety
         ensures { λ r. ⌜ r ≡ repairedSafety self ⌝ }
     {
-        self.control = words::below(8, 0, self.control);
+        self.control = words::below(CONTROLS, 0, self.control);
         self
     }
 }
@@ -176,7 +209,7 @@ impl Core {
         let clock = self.clock;
         let watchdog = self.watchdog;
         let safety = self.safety;
-        (clock.prescaler < PRESCALE) & (watchdog.interval != 0) & (safety.control < 8)
+        (clock.prescaler < PRESCALE) & (watchdog.interval != 0) & (safety.control < CONTROLS)
     }
 
     // The board's own part handed in.
@@ -204,7 +237,7 @@ pub fn reset() -> Core
             timestamp: 0,
         },
         watchdog: Watchdog {
-            interval: 50_000_000,
+            interval: INTERVAL,
             rest: 0,
             enabled: false,
             expired: false,
@@ -215,26 +248,4 @@ pub fn reset() -> Core
             safemode: false,
         },
     }
-}
-
-// The four slow ticks, of 10 s to 10 ms.
-fn slow_ticks(p: u32) -> u32
-    ensures { λ r. ⌜ r ≡ word 4 (tick p) ⌝ }
-    ensures { λ r. ⌜ r < 16 ⌝ }
-{
-    words::flag(p % 500_000_000 == 0)
-        + 2 * words::flag(p % 50_000_000 == 0)
-        + 4 * words::flag(p % 5_000_000 == 0)
-        + 8 * words::flag(p % 500_000 == 0)
-}
-
-// The four fast ticks, of 1 ms to 1 us.
-fn fast_ticks(p: u32) -> u32
-    ensures { λ r. ⌜ r ≡ word 4 (λ x. tick p (4 + x)) ⌝ }
-    ensures { λ r. ⌜ r < 16 ⌝ }
-{
-    words::flag(p % 50_000 == 0)
-        + 2 * words::flag(p % 5_000 == 0)
-        + 4 * words::flag(p % 500 == 0)
-        + 8 * words::flag(p % 50 == 0)
 }

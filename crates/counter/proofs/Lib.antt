@@ -1,9 +1,5 @@
 pub mod Signed
 pub mod Wrap
-pub mod Flags
-pub mod Codes
-pub mod Edges
-pub mod Asked
+pub mod Turns
 pub mod Placed
-pub mod Halves
 pub mod Same

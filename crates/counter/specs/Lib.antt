@@ -1,4 +1,5 @@
 pub mod Mode
+pub mod Samples
 pub mod Quadrature
 pub mod Difference
 pub mod Setters
@@ -6,4 +7,3 @@ pub mod Queue
 pub mod Preload
 pub mod Advance
 pub mod Repair
-pub mod Halves

@@ -3,24 +3,33 @@
 // anything of a record, so a channel with fields outside their ranges is answered too.
 ghost use mathlib.Core.Path.{_≡_};
 ghost use mathlib.Core.Bool.{true};
-ghost use Prim.Native.Nat.{_-_, _<_};
 ghost use lib.Dec.{eqb};
-ghost use lib.ListN.{set};
-ghost use Rattle.words.specs.Range.{below};
 ghost use Rattle.counter.specs.Mode.{TE};
 ghost use Rattle.counter.specs.Setters.{withRun};
-ghost use Rattle.counter.specs.Queue.{captured, popped, shifted};
+ghost use Rattle.counter.specs.Queue.{captured, popped};
 ghost use Rattle.counter.specs.Preload.{preloaded, started, selected};
-ghost use Rattle.counter.specs.Advance.{advance, inputs, settled};
-ghost use Rattle.counter.specs.Halves.{countedOf, finishedOf};
-ghost use Rattle.counter.specs.Repair.{inReasons, repaired, resetChannel};
+ghost use Rattle.counter.specs.Advance.{look, counted, loaded, nextOf, settled, step};
+ghost use Rattle.counter.specs.Repair.{repaired, resetChannel};
 
 mod difference;
 pub mod mode;
+mod queue;
+mod samples;
 mod stages;
 
-// The number of captures that a queue holds.
-pub const QUEUE: u32 = 16;
+// The captures that a queue holds.
+pub const QUEUE: usize = 16;
+
+// Masks and reasons are below this, 9 bits.
+pub const REASONS: u32 = 512;
+
+// Samples are below this, 4 bits.
+const SAMPLES: u32 = 16;
+
+// The routes, 0 to 54, and the one that is always 0.
+pub const ROUTES: u32 = 55;
+
+const UNROUTED: u32 = ROUTES - 1;
 
 // A channel. `second` says that preload 1 is the selected one; `kept` is A + 2 B + 4 index +
 // 8 ExtIn of the last step; `carry` is -1, 0 or +1; the queue's entries are the first `held`
@@ -39,19 +48,40 @@ pub struct Channel {
     pub kept: u32,
     pub extout: bool,
     pub carry: i32,
-    pub counts: [u32; 16],
-    pub timestamps: [u32; 16],
-    pub reasons: [u32; 16],
+    pub counts: [u32; QUEUE],
+    pub timestamps: [u32; QUEUE],
+    pub reasons: [u32; QUEUE],
     pub held: u32,
     pub lost: u32,
 }
 
-// The first half of a step: the count before a preload, the events of the step by their reason bits,
-// the carry, and armed before a preload.
+// What the clock gives: the difference, and whether the lines A and B made an error.
+pub struct Turn {
+    pub d: i32,
+    pub error: bool,
+}
+
+// What a channel's lines tell in a step: the difference, the reasons that do not come from the
+// count, whether the index is high, and armed after the index's edge.
+pub struct Seen {
+    pub d: i32,
+    pub reasons: u32,
+    pub high: bool,
+    pub armed: bool,
+}
+
+// The count before a preload, all reasons of the step, the carry, and armed before a preload.
 pub struct Counted {
     pub count: u32,
-    pub events: u32,
+    pub reasons: u32,
     pub carry: i32,
+    pub armed: bool,
+}
+
+// The count, the selection and armed after a preload, or as they were without one.
+pub struct Loaded {
+    pub count: u32,
+    pub second: bool,
     pub armed: bool,
 }
 
@@ -73,19 +103,19 @@ impl Channel {
         ensures { λ r. ⌜ r ≡ captured count timestamp reason self ⌝ }
     {
         let held = self.held;
-        if held < QUEUE {
+        if held < queue::ROOM {
             let counts = self.counts;
             let timestamps = self.timestamps;
             let reasons = self.reasons;
-            let c = put(counts, held, count);
-            let t = put(timestamps, held, timestamp);
-            let r = put(reasons, held, reason);
+            let c = queue::put(counts, held, count);
+            let t = queue::put(timestamps, held, timestamp);
+            let r = queue::put(reasons, held, reason);
             self.counts = c;
             self.timestamps = t;
             self.reasons = r;
             self.held = held + 1;
         } else {
-            if self.lost < 4294967295 {
+            if self.lost < queue::MOST_LOST {
                 self.lost = self.lost + 1;
             }
         }
@@ -99,13 +129,13 @@ impl Channel {
         let counts = self.counts;
         let timestamps = self.timestamps;
         let reasons = self.reasons;
-        let c = shift(counts);
-        let t = shift(timestamps);
-        let r = shift(reasons);
+        let c = queue::shift(counts);
+        let t = queue::shift(timestamps);
+        let r = queue::shift(reasons);
         self.counts = c;
         self.timestamps = t;
         self.reasons = r;
-        self.held = less_one(self.held);
+        self.held = queue::less_one(self.held);
         self
     }
 
@@ -113,10 +143,10 @@ impl Channel {
     pub fn preload(mut self) -> Channel
         ensures { λ r. ⌜ r ≡ preloaded self ⌝ }
     {
-        let loads = mode::allows_preload(self.mode, self.count);
-        let count = stages::pick(loads, self.selected(), self.count);
-        let second = mode::flipped(self.mode, loads, self.second);
-        let armed = mode::armed_by_load(self.mode, loads, self.armed);
+        let loads = stages::allowed(self.mode, self.count);
+        let count = queue::pick(loads, self.selected(), self.count);
+        let second = stages::flipped(self.mode, loads, self.second);
+        let armed = stages::armed_by_load(self.mode, loads, self.armed);
         self.count = count;
         self.second = second;
         self.armed = armed;
@@ -139,7 +169,7 @@ impl Channel {
         ensures { λ r. ⌜ r ≡ withRun true (eqb (TE (self .mode)) 0) self ⌝ }
     {
         self.running = true;
-        self.armed = self.mode / 512 % 4 == 0;
+        self.armed = mode::te(self.mode) == 0;
         self
     }
 
@@ -150,51 +180,102 @@ impl Channel {
         if self.running {
             return self;
         }
-        if self.mode / 16777216 % 2 == 1 {
+        if mode::tp(self.mode, 24) {
             self.begin().preload()
         } else {
             self.begin()
         }
     }
 
-    // The first half of a step, from the samples A + 2 B + 4 index + 8 ExtIn, the neighbour's carry
-    // and whether the timestamp rises. A halted channel does not count.
-    pub fn counted(self, now: u32, carried: i32, rises: bool) -> Counted
-        ensures { λ r. ⌜ r ≡ countedOf now carried rises self ⌝ }
+    // What the samples A + 2 B + 4 index + 8 ExtIn tell, with the neighbour's carry and whether the
+    // timestamp rises; of a halted channel nothing.
+    pub fn look(self, now: u32, carried: i32, rises: bool) -> Seen
+        ensures { λ r. ⌜ r ≡ look now carried rises self ⌝ }
     {
         if self.running {
-            return stages::count_on(
-                self.mode,
-                self.compares[0],
-                self.compares[1],
-                self.count,
-                self.armed,
-                self.kept,
-                now,
-                carried,
-                rises,
-            );
+            let armed = stages::armed_by_edge(self.mode, self.armed, self.kept, now);
+            let turn = difference::clock(mode::k(self.mode), self.kept, now, rises, carried);
+            let d = difference::reversed(mode::ud(self.mode), turn.d);
+            return Seen {
+                d: difference::gate(stages::counts(self.mode, armed, now), d),
+                reasons: stages::edge_reasons(self.kept, now) | (256 * words::flag(turn.error)),
+                high: samples::index(now),
+                armed: armed,
+            };
         }
-        Counted {
-            count: self.count,
-            events: 0,
-            carry: 0,
+        Seen {
+            d: 0,
+            reasons: 0,
+            high: false,
             armed: self.armed,
         }
     }
 
-    // The second half of a step, after the first made k.
-    pub fn finished(self, k: Counted, now: u32) -> Next
-        ensures { λ r. ⌜ r ≡ finishedOf now k self ⌝ }
+    // The count with matches, zero and carry.
+    fn count_on(self, s: Seen) -> Counted
+        ensures { λ r. ⌜ r ≡ counted s self ⌝ }
     {
-        if self.running {
-            return stages::close(self.mode, self.mask, self.selected(), k, self.second, now);
+        let d = s.d;
+        if d == 0 {
+            return Counted {
+                count: self.count,
+                reasons: s.reasons,
+                carry: 0,
+                armed: s.armed,
+            };
         }
-        stages::resting(self.mode, self.count, self.armed, self.second)
+        let n = difference::moved(self.count, d);
+        let match0 = n == self.compares[0];
+        let match1 = n == self.compares[1];
+        let zero = n == 0;
+        Counted {
+            count: n,
+            reasons: words::flags(match0, match1, zero, false) | s.reasons,
+            carry: difference::carry_of(self.count, d),
+            armed: s.armed & !(zero & (mode::td(self.mode) == 2)),
+        }
+    }
+
+    // The preload, where an event of TP asks for one and it is allowed.
+    fn load(self, now: u32, high: bool, k: Counted) -> Loaded
+        ensures { λ r. ⌜ r ≡ loaded now high k self ⌝ }
+    {
+        if stages::asked(self.mode, k.reasons, high) {
+            if stages::allowed_now(self.mode, k.count, now) {
+                return Loaded {
+                    count: self.selected(),
+                    second: stages::flipped(self.mode, true, self.second),
+                    armed: stages::armed_by_load(self.mode, true, k.armed),
+                };
+            }
+        }
+        Loaded {
+            count: k.count,
+            second: self.second,
+            armed: k.armed,
+        }
+    }
+
+    // What the stages make of the small fields.
+    fn next(self, now: u32, s: Seen) -> Next
+        ensures { λ r. ⌜ r ≡ nextOf now s self ⌝ }
+    {
+        let k = self.count_on(s);
+        let caught = stages::masked(self.mask, k.reasons);
+        let l = self.load(now, s.high, k);
+        Next {
+            count: l.count,
+            seen: k.count,
+            caught: caught,
+            carry: k.carry,
+            armed: l.armed,
+            second: l.second,
+            extout: stages::output(self.mode, caught % 4 != 0, l.second, l.count),
+        }
     }
 
     // The record after a step that made `n` of the small fields.
-    pub fn settle(mut self, n: Next, now: u32, timestamp: u32) -> Channel
+    fn settle(mut self, now: u32, timestamp: u32, n: Next) -> Channel
         ensures { λ r. ⌜ r ≡ settled now timestamp n self ⌝ }
     {
         self.count = n.count;
@@ -209,14 +290,12 @@ impl Channel {
         self
     }
 
-    // One step: the samples A + 2 B + 4 index + 8 ExtIn, the neighbour's carry, whether the
-    // timestamp rises, the timestamp. The board's step calls the three parts itself.
-    pub fn step(self, now: u32, carried: i32, rises: bool, timestamp: u32) -> Channel
-        ensures { λ r. ⌜ r ≡ advance (inputs now carried rises timestamp) self ⌝ }
+    // One step, from what the lines tell: the next record.
+    pub fn step(self, now: u32, timestamp: u32, s: Seen) -> Channel
+        ensures { λ r. ⌜ r ≡ step now timestamp s self ⌝ }
     {
-        let k = self.counted(now, carried, rises);
-        let n = self.finished(k, now);
-        self.settle(n, now, timestamp)
+        let n = self.next(now, s);
+        self.settle(now, timestamp, n)
     }
 
     // Every field is in its range, so that the repair changes nothing.
@@ -225,138 +304,29 @@ impl Channel {
     {
         let reasons = self.reasons;
         mode::is_good(self.mode)
-            & (self.route < 55)
-            & (self.mask < 512)
-            & (self.kept < 16)
-            & (self.held < 17)
+            & (self.route < ROUTES)
+            & (self.mask < REASONS)
+            & (self.kept < SAMPLES)
+            & (self.held < queue::LENGTHS)
             & difference::is_carry(self.carry)
-            & are_reasons(reasons)
+            & queue::are_reasons(reasons)
     }
 
     // A channel handed in: a field outside its range counts as its value at reset.
     pub fn repair(mut self) -> Channel
         ensures { λ r. ⌜ r ≡ repaired self ⌝ }
     {
-        self.mode = stages::pick(mode::is_good(self.mode), self.mode, 0);
-        self.route = words::below(55, 54, self.route);
-        self.mask = words::below(512, 0, self.mask);
-        self.kept = words::below(16, 0, self.kept);
+        self.mode = queue::pick(mode::is_good(self.mode), self.mode, 0);
+        self.route = words::below(ROUTES, UNROUTED, self.route);
+        self.mask = words::below(REASONS, 0, self.mask);
+        self.kept = words::below(SAMPLES, 0, self.kept);
         self.carry = difference::in_carry(self.carry);
         let reasons = self.reasons;
-        let r = in_reasons(reasons);
+        let r = queue::in_reasons(reasons);
         self.reasons = r;
-        self.held = words::below(17, 0, self.held);
+        self.held = words::below(queue::LENGTHS, 0, self.held);
         self
     }
-}
-
-// An array of a queue with x at a place.
-fn put(a: [u32; 16], at: u32, x: u32) -> [u32; 16]
-    requires { ⌜ at < 16 ⌝ }
-    ensures { λ r. ⌜ r ≡ set a at x ⌝ }
-{
-    [
-        stages::pick(at == 0, x, a[0]),
-        stages::pick(at == 1, x, a[1]),
-        stages::pick(at == 2, x, a[2]),
-        stages::pick(at == 3, x, a[3]),
-        stages::pick(at == 4, x, a[4]),
-        stages::pick(at == 5, x, a[5]),
-        stages::pick(at == 6, x, a[6]),
-        stages::pick(at == 7, x, a[7]),
-        stages::pick(at == 8, x, a[8]),
-        stages::pick(at == 9, x, a[9]),
-        stages::pick(at == 10, x, a[10]),
-        stages::pick(at == 11, x, a[11]),
-        stages::pick(at == 12, x, a[12]),
-        stages::pick(at == 13, x, a[13]),
-        stages::pick(at == 14, x, a[14]),
-        stages::pick(at == 15, x, a[15]),
-    ]
-}
-
-// One less, and 0 of 0.
-fn less_one(n: u32) -> u32
-    ensures { λ r. ⌜ r ≡ n - 1 ⌝ }
-{
-    if n == 0 { 0 } else { n - 1 }
-}
-
-// A queue's array without its first element, a 0 at the end.
-fn shift(a: [u32; 16]) -> [u32; 16]
-    ensures { λ r. ⌜ r ≡ shifted a ⌝ }
-{
-    [
-        a[1],
-        a[2],
-        a[3],
-        a[4],
-        a[5],
-        a[6],
-        a[7],
-        a[8],
-        a[9],
-        a[10],
-        a[11],
-        a[12],
-        a[13],
-        a[14],
-        a[15],
-        0,
-    ]
-}
-
-// Every place of the reasons' array is in its range.
-fn are_reasons(a: [u32; 16]) -> bool
-    ensures { λ r. ⌜ (r ≡ true → inReasons a ≡ a) ⌝ }
-{
-    (a[0] < 512)
-        & (a[1] < 512)
-        & (a[2] < 512)
-        & (a[3] < 512)
-        & (a[4] < 512)
-        & (a[5] < 512)
-        & (a[6] < 512)
-        & (a[7] < 512)
-        & (a[8] < 512)
-        & (a[9] < 512)
-        & (a[10] < 512)
-        & (a[11] < 512)
-        & (a[12] < 512)
-        & (a[13] < 512)
-        & (a[14] < 512)
-        & (a[15] < 512)
-}
-
-// A reason in its range.
-fn in_reason(r: u32) -> u32
-    ensures { λ x. ⌜ x ≡ below 512 0 r ⌝ }
-{
-    words::below(512, 0, r)
-}
-
-// Every place of the reasons' array in its range.
-fn in_reasons(a: [u32; 16]) -> [u32; 16]
-    ensures { λ r. ⌜ r ≡ inReasons a ⌝ }
-{
-    [
-        in_reason(a[0]),
-        in_reason(a[1]),
-        in_reason(a[2]),
-        in_reason(a[3]),
-        in_reason(a[4]),
-        in_reason(a[5]),
-        in_reason(a[6]),
-        in_reason(a[7]),
-        in_reason(a[8]),
-        in_reason(a[9]),
-        in_reason(a[10]),
-        in_reason(a[11]),
-        in_reason(a[12]),
-        in_reason(a[13]),
-        in_reason(a[14]),
-        in_reason(a[15]),
-    ]
 }
 
 // A channel at reset.
@@ -367,7 +337,7 @@ pub fn reset() -> Channel
         mode: 0,
         preloads: [0; 2],
         compares: [0; 2],
-        route: 54,
+        route: UNROUTED,
         mask: 0,
         count: 0,
         running: false,
@@ -376,9 +346,9 @@ pub fn reset() -> Channel
         kept: 0,
         extout: false,
         carry: 0,
-        counts: [0; 16],
-        timestamps: [0; 16],
-        reasons: [0; 16],
+        counts: [0; QUEUE],
+        timestamps: [0; QUEUE],
+        reasons: [0; QUEUE],
         held: 0,
         lost: 0,
     }

@@ -25,7 +25,8 @@ use Rattle.calls.specs.declared.Event.{Event}
 use Rattle.calls.specs.declared.Answer.{Answer}
 use Rattle.board.specs.Inputs.{channelIn}
 use Rattle.board.specs.Step.{stepped}
-use Rattle.board.specs.Respond.{Class, step, channel, pin, virtual, board, unknown, classOf, checked, respondBy, respondWith, respond}
+use Rattle.board.proofs.Checks.{named}
+use Rattle.board.specs.Respond.{Class, step, channel, pin, virtual, board, unknown, classOf, refusalIn, refusalBy, checked, acceptedBy, respondBy, respondWith, respond}
 use Rattle.board.specs.declared.Board.{Board}
 use Rattle.reach.specs.Range.{InRange}
 use Rattle.reach.proofs.Fitting.{fits-by, fitting}
@@ -50,14 +51,13 @@ module _ (M : Members) (b h : Board) (seen : Seen M b h) (left : InRange b) (rig
 
   -- ---- a call that stays in the remainder
 
-  within : (n : ℕ) (r q : Reply Board) → (e .member < n → Follows (Seen M) r q) → Follows (Seen M) (checked n e b r) (checked n e h q)
+  within : (n : ℕ) (r q : Reply Board) → (e .member < n → Follows (Seen M) r q) → Follows (Seen M) (checked (refusalIn n e) b r) (checked (refusalIn n e) h q)
+  unfolding refusalIn
   within n r q s =
-      paired (Follows (Seen M)) (ltb (e .member) n)
-      (λ k. paired (Follows (Seen M)) (fits e) (λ _. s (ltb-true _ _ k)) (λ _. refused-alike 3))
-      (λ _. refused-alike 1)
+      paired (Follows (Seen M)) (eqb (refusalIn n e) 0) (λ k. s (named n e (eqb-true _ _ k))) (λ _. refused-alike _)
 
   call-kept : (C : Class) → onOutsider M C (e .member) ≡ false → (C ≡ step → ⊥) → Follows (Seen M) (respondBy stepped C b e) (respondBy stepped C h e)
-  unfolding respondBy onOutsider
+  unfolding respondBy refusalBy acceptedBy onOutsider
   call-kept step o s = absurd (s refl)
   call-kept channel o s = within 6 _ _ (λ k.
       let same : channelCall (b .core .clock .timestamp) e (channelIn (b .channels) (e .member)) ≡ channelCall (h .core .clock .timestamp) e (channelIn (h .channels) (e .member)) =
@@ -127,7 +127,7 @@ cleared-fits M e z f =
 module _ (M : Members) (t : Settings) (b h : Board) (told : Told t b) (closed : Closed M t) (seen : Seen M b h) (e : Event) where
   step-kept : eqb (e .kind) 0 ≡ true → isRefusedStep e (respondBy stepped step b e .answer) ≡ false
       → Follows (Seen M) (respondBy stepped step b e) (respondBy stepped step h (cleared M e))
-  unfolding respondBy cleared
+  unfolding respondBy refusalBy acceptedBy cleared
   step-kept z r = go (fits e) refl
     where
       go : (u : Bool) → fits e ≡ u → Follows (Seen M) (respondBy stepped step b e) (respondBy stepped step h (cleared M e))
@@ -187,12 +187,12 @@ misaddressed n h = go (eqb n 1) refl
     go false z = let two : eqb n 2 ≡ true = rw z at h in (other n 2 0 two refl, other n 2 6 two refl)
 
 module _ (M : Members) (b h : Board) (seen : Seen M b h) (left : InRange b) (e : Event) where
-  passed : (n : ℕ) (r : Reply Board) → Unseen M h r → Unseen M h (checked n e b r)
+  passed : (n : ℕ) (r : Reply Board) → Unseen M h r → Unseen M h (checked (refusalIn n e) b r)
   passed n r s = past-checks (Unseen M h) n e b r (record { state = seen }) (record { state = seen }) (λ _ _. s)
 
   -- a call on an outsider
   call-gone : (C : Class) → onOutsider M C (e .member) ≡ true → Unseen M h (respondBy stepped C b e)
-  unfolding respondBy onOutsider
+  unfolding respondBy refusalBy acceptedBy onOutsider
   call-gone step o = absurd (false≢true o)
   call-gone channel o = passed 6 _ (record {
     state = record {
@@ -223,7 +223,7 @@ module _ (M : Members) (b h : Board) (seen : Seen M b h) (left : InRange b) (e :
 
   -- a refused step
   step-gone : isRefusedStep e (respondBy stepped step b e .answer) ≡ true → Unseen M h (respondBy stepped step b e)
-  unfolding respondBy
+  unfolding respondBy refusalBy acceptedBy
   step-gone r = go (fits e) refl
     where
       go : (u : Bool) → fits e ≡ u → Unseen M h (respondBy stepped step b e)

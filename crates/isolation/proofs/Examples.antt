@@ -8,10 +8,10 @@ use lib.ListN.{getD}
 use Rattle.calls.specs.Reply.{Reply, number}
 use Rattle.calls.specs.declared.Event.{Event}
 use Rattle.calls.specs.declared.Answer.{Answer}
-use Rattle.words.specs.Bits.{bit, word}
+use Rattle.words.specs.Bits.{bit, word, some}
 use Rattle.words.specs.Table.{tab}
-use Rattle.counter.specs.Advance.{difference, masked, caughtOf, finished, live, resting, nextOf, settled, advance}
-use Rattle.counter.specs.Difference.{clocked}
+use Rattle.counter.specs.Advance.{edgeReasons, look, counted as countedOn, masked, asked, loaded, nextOf, settled, step, advance}
+use Rattle.counter.specs.Difference.{clocked, errs}
 use Rattle.counter.specs.Preload.{preloaded, started}
 use Rattle.counter.specs.Queue.{captured, popped}
 use Rattle.counter.specs.Repair.{resetChannel, inReasons, repaired}
@@ -28,7 +28,7 @@ use Rattle.calls.specs.PinCalls.{pinCall}
 use Rattle.calls.specs.VirtualCalls.{virtualCall}
 use Rattle.board.specs.Handed.{resetBoard, repairedBoard, lostCleared, kept, applied}
 use Rattle.board.specs.Inputs.{extouts, indexOf, samplesOf, inputsOf, channelNext, allNext}
-use Rattle.board.specs.Respond.{respondBy, respondWith, respond}
+use Rattle.board.specs.Respond.{refusalIn, refusalBy, acceptedBy, respondBy, respondWith, respond}
 use Rattle.board.specs.Runs.{finish}
 use Rattle.board.specs.Step.{sceneOf, coreNext, stepWith, stepped}
 use Rattle.board.specs.declared.Board.{Board}
@@ -43,7 +43,7 @@ use Rattle.isolation.specs.Apart.{Computed, ending, Refuting, quorum, sp
 use Rattle.isolation.proofs.Tests.{decided}
 
 pub computed : Computed
-unfolding bit word tab difference masked caughtOf finished live resting nextOf settled advance clocked preloaded started captured popped resetChannel pinAt putPin pinLevel sensedWith driven resetPins virtualAt putVirtual virtualLevels resetVirtuals routed advanced ticks guarded watched kicked switched resetCore intervalWrite boardCall modeWrite registerWrite routeWrite snapshotRead channelCall limits limit fits pinCall virtualCall resetBoard extouts indexOf samplesOf inputsOf channelNext allNext respondBy respondWith respond finish sceneOf coreNext stepWith stepped inReasons repaired repairedPins repairedVirtuals repairedClock repairedSafety repairedWatchdog repairedCore repairedBoard lostCleared kept applied remainder keptAnswers untold latest told onOutsider struck cleared shown clauses all without afterEach among group setup neighbours trial shared sole given quorum spilling
+unfolding bit word some tab edgeReasons look countedOn masked asked loaded nextOf settled step advance clocked errs preloaded started captured popped resetChannel pinAt putPin pinLevel sensedWith driven resetPins virtualAt putVirtual virtualLevels resetVirtuals routed advanced ticks guarded watched kicked switched resetCore intervalWrite boardCall modeWrite registerWrite routeWrite snapshotRead channelCall limits limit fits pinCall virtualCall resetBoard extouts indexOf samplesOf inputsOf channelNext allNext refusalIn refusalBy acceptedBy respondBy respondWith respond finish sceneOf coreNext stepWith stepped inReasons repaired repairedPins repairedVirtuals repairedClock repairedSafety repairedWatchdog repairedCore repairedBoard lostCleared kept applied remainder keptAnswers untold latest told onOutsider struck cleared shown clauses all without afterEach among group setup neighbours trial shared sole given quorum spilling
 computed = record {
   alike = record {
     longer = refl;

@@ -12,7 +12,7 @@ use Rattle.words.specs.Bits.{bit, word}
 use Rattle.words.proofs.BitLaws.{bit-word}
 use Rattle.words.proofs.Cases.{either}
 use Rattle.counter.specs.Mode.{XS, K, IP}
-use Rattle.counter.specs.Quadrature.{samples}
+use Rattle.counter.specs.Samples.{samples}
 use Rattle.counter.specs.Advance.{inputs, advance}
 use Rattle.counter.specs.Repair.{noChannel}
 use Rattle.counter.specs.declared.Channel.{Channel}
@@ -28,7 +28,7 @@ use Rattle.board.specs.Inputs.{channelIn, neighbour, extouts, indexOf, carriedB
 use Rattle.board.specs.Step.{sceneOf, coreNext, stepWith, stepped}
 use Rattle.board.specs.declared.Board.{Board}
 use Rattle.board.specs.declared.Scene.{Scene}
-use Rattle.reach.proofs.Tables.{getD-tab}
+use Rattle.words.proofs.Tables.{getD-tab}
 use Rattle.isolation.specs.Members.{Members}
 use Rattle.isolation.specs.Settings.{Settings}
 use Rattle.isolation.specs.Closed.{Closed}

@@ -11,7 +11,7 @@ use Rattle.counter.specs.Mode.{TP}
 use Rattle.counter.specs.Setters.{withMode, withRoute}
 use Rattle.counter.specs.Queue.{captured, popped}
 use Rattle.counter.specs.Preload.{preloaded, started}
-use Rattle.counter.specs.Advance.{Inputs, nextOf, settled, advance}
+use Rattle.counter.specs.Advance.{Inputs, settled, step, advance}
 use Rattle.counter.specs.declared.Channel.{Channel}
 use Rattle.counter.specs.declared.Next.{Next}
 use Rattle.ports.specs.declared.Pin.{Pin}
@@ -78,8 +78,8 @@ module _ (c : Channel) where
       either (SameSettings c) (eqb (n .caught) 0) (record { mode = refl; route = refl }) (captured-same _ _ _ _ (record { mode = refl; route = refl }))
 
   pub advance-same : (i : Inputs) → SameSettings c (advance i c)
-  unfolding advance
-  advance-same i = settled-same (i .now) (i .timestamp) (nextOf i c)
+  unfolding advance step
+  advance-same i = settled-same (i .now) (i .timestamp) _
 
   -- u: it is call 1, w: it is call 4
   pub record SetChannel (u w : Bool) (v : ℕ) (r : Reply Channel) : Type 0 where

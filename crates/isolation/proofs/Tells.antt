@@ -24,12 +24,12 @@ use Rattle.calls.specs.declared.Event.{Event}
 use Rattle.calls.specs.declared.Answer.{Answer}
 use Rattle.board.specs.Inputs.{channelIn, channelNext, allNext}
 use Rattle.board.specs.Step.{coreNext, stepWith, stepped}
-use Rattle.board.specs.Respond.{Class, step, channel, pin, virtual, board, unknown, classOf, checked, respondBy, respondWith, respond}
+use Rattle.board.specs.Respond.{Class, step, channel, pin, virtual, board, unknown, classOf, refusalIn, refusalBy, checked, acceptedBy, respondBy, respondWith, respond}
 use Rattle.board.specs.Handed.{resetBoard}
 use Rattle.board.specs.declared.Board.{Board}
 use Rattle.reach.specs.Range.{InRange}
-use Rattle.reach.proofs.Tables.{getD-tab}
-use Rattle.reach.proofs.RangedBoard.{past-checks}
+use Rattle.words.proofs.Tables.{getD-tab}
+use Rattle.reach.proofs.RangedBoard.{past-checks, past-fields}
 use Rattle.reach.proofs.RangedPins.{pin-sound, pin-ranged}
 use Rattle.isolation.specs.Settings.{Settings, untold, latest, told}
 use Rattle.isolation.proofs.Placed.{channels-placed, source-held, pins-placed}
@@ -104,15 +104,14 @@ module _ (t : Settings) (b : Board) (e : Event) (m : Told t b) (range : InRange 
       silent : (k : ℕ) → Silent e (record { result = n; value = 0; timestamp = 0; reason = 0 }) k
       silent k i old = not-accepted k i e _ old h
 
-  within : (n : ℕ) (r : Reply Board) → (e .member < n → fits e ≡ true → Telling t e r) → Telling t e (checked n e b r)
+  within : (n : ℕ) (r : Reply Board) → (e .member < n → fits e ≡ true → Telling t e r) → Telling t e (checked (refusalIn n e) b r)
   within n r = past-checks (Telling t e) n e b r (refused 3 refl) (refused 1 refl)
 
   by-class : (C : Class) → classOf (e .kind) ≡ C → Telling t e (respondBy stepped C b e)
-  unfolding respondBy told
+  unfolding respondBy refusalBy acceptedBy told
   by-class step p =
-      tested (Telling t e) (fits e)
-      (λ _. record { after = step-quiet e _ t b (stepped (e .v) (e .w) b) p m (stepped-keeps (e .v) (e .w) b) })
-      (λ _. refused 3 refl)
+      past-fields (Telling t e) e b _ (refused 3 refl)
+      (record { after = step-quiet e _ t b (stepped (e .v) (e .w) b) p m (stepped-keeps (e .v) (e .w) b) })
   by-class channel p = within 6 _ (λ k f.
       let c : Channel = channelIn (b .channels) (e .member) in
       let q : Reply Channel = channelCall (b .core .clock .timestamp) e c in

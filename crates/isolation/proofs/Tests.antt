@@ -15,7 +15,7 @@ use Rattle.calls.specs.Reply.{Reply}
 use Rattle.calls.specs.declared.Answer.{Answer}
 use Rattle.board.specs.Handed.{resetBoard}
 use Rattle.reach.proofs.Cases.{asked}
-use Rattle.reach.proofs.Tables.{getD-tab}
+use Rattle.words.proofs.Tables.{getD-tab}
 use Rattle.isolation.specs.Lists.{AfterEach}
 use Rattle.isolation.specs.Members.{Members}
 use Rattle.isolation.specs.Settings.{Settings, untold, told}

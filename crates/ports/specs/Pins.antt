@@ -1,15 +1,15 @@
 -- The 48 pins: bit p of each word is pin p's. Document 01, "The step", parts 2 and 6, and the pins of a board handed in.
 -- Assumes nothing.
-use mathlib.Core.Bool.{Bool, true, cond, _&&_, _||_}
-use Prim.Native.Nat.{ℕ, _+_, _-_, _*_}
+use mathlib.Core.Bool.{Bool, true, false, cond, _&&_, _||_}
+use Prim.Native.Nat.{ℕ, _-_}
 use lib.Dec.{ltb}
-use Rattle.words.specs.Bits.{bit, flag, word, putBit}
+use Rattle.words.specs.Bits.{bit, flags, word, putBit}
 use Rattle.ports.specs.declared.Pin.{Pin}
 use Rattle.ports.specs.declared.Pins.{Pins}
 
 -- the source number whose three bits stand in the three planes
 abbrev pub number : Bool → Bool → Bool → ℕ
-number a b c = flag a + 2 * flag b + 4 * flag c
+number a b c = flags a b c false
 
 -- pin p's own record
 unfoldable pub pinAt : Pins → ℕ → Pin

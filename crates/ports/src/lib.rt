@@ -13,6 +13,17 @@ pub const PINS: u64 = 48;
 
 pub const VIRTUALS: u64 = 6;
 
+// Source numbers are below this: the own register and six ExtOuts.
+pub const SOURCES: u32 = 7;
+
+// Words of the virtual outputs are below this, 6 bits, and every bit of such a word.
+const OUTPUTS: u64 = 64;
+
+const ALL_OUTPUTS: u64 = OUTPUTS - 1;
+
+// Routes below this read a pin or a virtual output.
+const ROUTED: u64 = PINS + VIRTUALS;
+
 // One pin.
 #[repr(C)]
 pub struct Pin {
@@ -58,7 +69,7 @@ pub struct Virtuals {
 fn number(a: bool, b: bool, c: bool) -> u32
     ensures { λ r. ⌜ r ≡ number a b c ⌝ }
 {
-    words::flag(a) + 2 * words::flag(b) + 4 * words::flag(c)
+    words::flags(a, b, c, false)
 }
 
 // What the sources give, pin by pin.
@@ -163,14 +174,14 @@ impl Pins {
     pub fn is_sound(self) -> bool
         ensures { λ r. ⌜ (r ≡ true → repairedPins self ≡ self) ⌝ }
     {
-        (self.level < 281474976710656)
-            & (self.driven < 281474976710656)
-            & (self.own < 281474976710656)
-            & (self.safedata < 281474976710656)
-            & (self.safeenable < 281474976710656)
-            & (self.source0 < 281474976710656)
-            & (self.source1 < 281474976710656)
-            & (self.source2 < 281474976710656)
+        (self.level < words::WORDS)
+            & (self.driven < words::WORDS)
+            & (self.own < words::WORDS)
+            & (self.safedata < words::WORDS)
+            & (self.safeenable < words::WORDS)
+            & (self.source0 < words::WORDS)
+            & (self.source1 < words::WORDS)
+            & (self.source2 < words::WORDS)
             & (words::both(words::both(self.source0, self.source1), self.source2) == 0)
     }
 
@@ -212,14 +223,14 @@ fn put_virtual_bit(w: u64, o: u64, t: bool) -> u64
     requires { ⌜ o < 6 ⌝ }
     ensures { λ r. ⌜ r ≡ putBit 6 o t w ⌝ }
 {
-    words::put(w, o, t) % 64
+    words::put(w, o, t) % OUTPUTS
 }
 
 // A word of the outputs without the bits above bit 5.
 fn cut_virtual(w: u64) -> u64
     ensures { λ r. ⌜ r ≡ word 6 (bit w) ⌝ }
 {
-    w % 64
+    w % OUTPUTS
 }
 
 impl Virtuals {
@@ -251,14 +262,14 @@ impl Virtuals {
     pub fn levels(self, safemode: bool) -> u64
         ensures { λ r. ⌜ r ≡ virtualLevels safemode self ⌝ }
     {
-        guarded(self.own, safemode, self.safedata, self.safeenable) % 64
+        guarded(self.own, safemode, self.safedata, self.safeenable) % OUTPUTS
     }
 
     // Every field is in its range, so that the repair changes nothing.
     pub fn is_sound(self) -> bool
         ensures { λ r. ⌜ (r ≡ true → repairedVirtuals self ≡ self) ⌝ }
     {
-        (self.own < 64) & (self.safedata < 64) & (self.safeenable < 64)
+        (self.own < OUTPUTS) & (self.safedata < OUTPUTS) & (self.safeenable < OUTPUTS)
     }
 
     // Outputs handed in, without the bits that are no output's.
@@ -280,7 +291,7 @@ pub fn reset_virtuals() -> Virtuals
     Virtuals {
         own: 0,
         safedata: 0,
-        safeenable: 63,
+        safeenable: ALL_OUTPUTS,
     }
 }
 
@@ -291,7 +302,7 @@ pub fn route_level(levels: u64, virtuals: u64, r: u64) -> bool
     if r < PINS {
         words::bit(levels, r)
     } else {
-        if r < 54 {
+        if r < ROUTED {
             words::bit(virtuals, r - PINS)
         } else {
             false

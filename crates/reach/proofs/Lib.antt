@@ -1,5 +1,4 @@
 pub mod Cases
-pub mod Tables
 pub mod Fitting
 pub mod Sound
 pub mod RangedQueue

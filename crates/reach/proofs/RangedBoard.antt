@@ -1,7 +1,7 @@
 -- Every event keeps a board in range, and only the answers 0 and 6 change it.
 -- Assumes nothing.
 use mathlib.Core.Path.{_≡_, refl, ap, sym, _∙_}
-use mathlib.Core.Bool.{true, not, Bool·beq}
+use mathlib.Core.Bool.{Bool, true, false, not, Bool·beq}
 use mathlib.Core.List.{List}
 use Prim.Native.Nat.{ℕ, _+_, _*_, _<_}
 use borrow.Author.Tests.{ltb-true, lt-ltb}
@@ -20,13 +20,13 @@ use Rattle.calls.specs.Fields.{fits}
 use Rattle.calls.specs.declared.Event.{Event}
 use Rattle.board.specs.Inputs.{channelIn, neighbour, indexOf, samplesOf, inputsOf, channelNext, allNext}
 use Rattle.board.specs.Step.{stepWith, stepped}
-use Rattle.board.specs.Respond.{Class, step, channel, pin, virtual, board, unknown, classOf, withChannels, withPins, withVirtuals, withCore, checked, respondBy, respondWith, respond}
+use Rattle.board.specs.Respond.{Class, step, channel, pin, virtual, board, unknown, classOf, withChannels, withPins, withVirtuals, withCore, refusalIn, refusalBy, checked, acceptedBy, respondBy, respondWith, respond}
 use Rattle.board.specs.Handed.{lostCleared}
 use Rattle.board.specs.declared.Board.{Board}
 use Rattle.board.specs.declared.Scene.{Scene}
 use Rattle.reach.specs.Range.{ChannelInRange, InRange}
 use Rattle.words.proofs.Cases.{tested, taken}
-use Rattle.reach.proofs.Tables.{length-tab, getD-tab, set-keeps}
+use Rattle.words.proofs.Tables.{length-tab, getD-tab, set-keeps}
 use Rattle.reach.proofs.Sound.{Sound, refusal, done, put-back}
 use Rattle.reach.proofs.RangedStep.{samples-lt, advance-ranged}
 use Rattle.reach.proofs.RangedChannel.{channel-sound}
@@ -62,9 +62,23 @@ stepped-ranged v w b r = record {
 
 -- what holds of the refusals 3 and 1, and of a reply where the member is one of n and the fields fit, holds of the reply past these checks
 pub past-checks : (P : Reply Board → Type 0) (n : ℕ) (e : Event) (b : Board) (x : Reply Board) → P (refuse 3 b) → P (refuse 1 b)
-    → (e .member < n → fits e ≡ true → P x) → P (checked n e b x)
-past-checks P n e b x p q s =
-    tested P (ltb (e .member) n) (λ h. tested P (fits e) (s (ltb-true _ _ h)) (λ _. p)) (λ _. q)
+    → (e .member < n → fits e ≡ true → P x) → P (checked (refusalIn n e) b x)
+unfolding refusalIn
+past-checks P n e b x p q s = go (ltb (e .member) n) refl (fits e) refl
+  where
+    go : (t : Bool) → ltb (e .member) n ≡ t → (u : Bool) → fits e ≡ u → P (checked (refusalIn n e) b x)
+    go true h true f = rw (h, f) (s (ltb-true _ _ h) f)
+    go true h false f = rw (h, f) p
+    go false h u f = rw h q
+
+-- the same for a step, whose member is one of its fields
+pub past-fields : (P : Reply Board → Type 0) (e : Event) (b : Board) (x : Reply Board) → P (refuse 3 b) → P x → P (checked (refusalBy step e) b x)
+unfolding refusalBy
+past-fields P e b x p s = go (fits e) refl
+  where
+    go : (u : Bool) → fits e ≡ u → P (checked (refusalBy step e) b x)
+    go true f = rw f s
+    go false f = rw f p
 
 -- an answer 6 sets the member's lost count to 0
 abbrev pub SoundEvent : Board → Event → Reply Board → Type 0
@@ -90,12 +104,12 @@ module _ (b : Board) (r : InRange b) where
 
   module _ (e : Event) where
     -- the refusals 1 and 3 leave the board, so the call counts only where the member is one of n and the fields fit
-    checked-sound : (n : ℕ) (x : Reply Board) → (e .member < n → fits e ≡ true → SoundEvent b e x) → SoundEvent b e (checked n e b x)
+    checked-sound : (n : ℕ) (x : Reply Board) → (e .member < n → fits e ≡ true → SoundEvent b e x) → SoundEvent b e (checked (refusalIn n e) b x)
     checked-sound n x = past-checks (SoundEvent b e) n e b x (refusal 3 b refl r refl) (refusal 1 b refl r refl)
 
     by-class : (k : Class) → SoundEvent b e (respondBy stepped k b e)
-    unfolding respondBy
-    by-class step = tested (SoundEvent b e) (fits e) (λ _. done (stepped-ranged (e .v) (e .w) b r)) (λ _. refusal 3 b refl r refl)
+    unfolding respondBy refusalBy acceptedBy
+    by-class step = past-fields (SoundEvent b e) e b _ (refusal 3 b refl r refl) (done (stepped-ranged (e .v) (e .w) b r))
     by-class channel =
         checked-sound 6 _ (λ m f.
         put-back (λ c. withChannels (set (b .channels) (e .member) c) b) _

@@ -13,7 +13,7 @@ use Rattle.counter.specs.Queue.{captured, popped}
 use Rattle.counter.specs.declared.Channel.{Channel}
 use Rattle.reach.specs.Range.{ChannelInRange}
 use Rattle.words.proofs.Cases.{tested}
-use Rattle.reach.proofs.Tables.{length-tab, tab-keeps, getD-end, set-keeps}
+use Rattle.words.proofs.Tables.{length-tab, tab-keeps, getD-end, set-keeps}
 
 -- the fields with no range may have any value
 pub free : {c : Channel} {preloads compares counts timestamps : List ℕ} {count lost : ℕ} {running armed second extout : Bool} → ChannelInRange c

@@ -7,11 +7,12 @@ use lib.Dec.{eqb, ltb}
 use lib.IntN.{ℤ, natAbs}
 use Rattle.words.specs.Bits.{flag}
 use Rattle.words.proofs.BitLaws.{word-lt}
-use Rattle.counter.specs.Quadrature.{samples}
+use Rattle.counter.specs.Samples.{samples}
 use Rattle.counter.specs.Difference.{isUp, isDown, moved, carryOf}
 use Rattle.counter.specs.Setters.{withStep}
-use Rattle.counter.specs.Advance.{Inputs, Registers, masked, caughtOf, finished, live, resting, nextOf, settled, advance}
+use Rattle.counter.specs.Advance.{Inputs, look, counted, masked, nextOf, settled, step, advance}
 use Rattle.counter.specs.declared.Channel.{Channel}
+use Rattle.counter.specs.declared.Seen.{Seen}
 use Rattle.counter.specs.declared.Next.{Next}
 use Rattle.reach.specs.Range.{ChannelInRange}
 use Rattle.words.proofs.Cases.{either}
@@ -38,25 +39,9 @@ record NextInRange (n : Next) : Type 0 where
   caught : n .caught < 512
   carry : natAbs (n .carry) < 2
 
-caught-lt : (m mask : ℕ) (m0 m1 zero : Bool) (kept now : ℕ) → caughtOf m mask m0 m1 zero kept now < 512
-unfolding caughtOf masked
-caught-lt m mask m0 m1 zero kept now = word-lt 9 _
-
-finished-ranged : (now : ℕ) (g : Registers) (d : ℤ) → NextInRange (finished now g d)
-unfolding finished
-finished-ranged now g d = record { caught = caught-lt _ _ _ _ _ _ _; carry = carry-small (g .count) d .size }
-
-live-ranged : (now : ℕ) (carried : ℤ) (rises : Bool) (g : Registers) → NextInRange (live now carried rises g)
-unfolding live
-live-ranged now carried rises g = finished-ranged now g _
-
-resting-ranged : (m count : ℕ) (armed second : Bool) → NextInRange (resting m count armed second)
-unfolding resting
-resting-ranged m count armed second = record { caught = omega arith; carry = omega arith }
-
-next-ranged : (i : Inputs) (c : Channel) → NextInRange (nextOf i c)
-unfolding nextOf
-next-ranged i c = either NextInRange (c .running) (live-ranged _ _ _ _) (resting-ranged _ _ _ _)
+next-ranged : (now : ℕ) (seen : Seen) (c : Channel) → NextInRange (nextOf now seen c)
+unfolding nextOf masked counted
+next-ranged now seen c = record { caught = word-lt 9 _; carry = carry-small (c .count) (seen .d) .size }
 
 -- ---- the record with them
 
@@ -71,5 +56,5 @@ module _ (c : Channel) (r : ChannelInRange c) where
       either ChannelInRange (eqb (n .caught) 0) next (captured-ranged _ next (n .seen) timestamp (n .caught) (q .caught))
 
   pub advance-ranged : (i : Inputs) → i .now < 16 → ChannelInRange (advance i c)
-  unfolding advance
-  advance-ranged i b = settled-ranged (i .now) (i .timestamp) (nextOf i c) b (next-ranged i c)
+  unfolding advance step
+  advance-ranged i b = settled-ranged (i .now) (i .timestamp) _ b (next-ranged (i .now) (look (i .now) (i .carried) (i .rises) c) c)

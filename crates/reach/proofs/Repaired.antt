@@ -17,7 +17,7 @@ use Rattle.board.specs.Handed.{repairedBoard}
 use Rattle.board.specs.declared.Board.{Board}
 use Rattle.board.proofs.Same as board
 use Rattle.reach.specs.Range.{ChannelInRange, InRange}
-use Rattle.reach.proofs.Tables.{tab-same}
+use Rattle.words.proofs.Tables.{tab-same}
 
 carry-same : (z : ℤ) → natAbs z < 2 → inCarry z ≡ z
 carry-same (pos zero) h = refl

@@ -2,10 +2,10 @@
 -- Assumes nothing.
 use mathlib.Core.Path.{_≡_, refl}
 use mathlib.Core.List.{map}
-use Rattle.words.specs.Bits.{bit, word}
+use Rattle.words.specs.Bits.{bit, word, some}
 use Rattle.words.specs.Table.{tab}
-use Rattle.counter.specs.Advance.{difference, masked, caughtOf, finished, live, resting, nextOf, settled, advance}
-use Rattle.counter.specs.Difference.{clocked}
+use Rattle.counter.specs.Advance.{edgeReasons, look, counted, masked, asked, loaded, nextOf, settled, step, advance}
+use Rattle.counter.specs.Difference.{clocked, errs}
 use Rattle.counter.specs.Preload.{preloaded, started}
 use Rattle.counter.specs.Queue.{captured, popped}
 use Rattle.counter.specs.Repair.{resetChannel}
@@ -22,11 +22,11 @@ use Rattle.calls.specs.PinCalls.{pinCall}
 use Rattle.calls.specs.VirtualCalls.{virtualCall}
 use Rattle.board.specs.Handed.{resetBoard}
 use Rattle.board.specs.Inputs.{extouts, indexOf, samplesOf, inputsOf, channelNext, allNext}
-use Rattle.board.specs.Respond.{respondBy, respondWith, respond}
+use Rattle.board.specs.Respond.{refusalIn, refusalBy, acceptedBy, respondBy, respondWith, respond}
 use Rattle.board.specs.Runs.{finish}
 use Rattle.board.specs.Step.{sceneOf, coreNext, stepWith, stepped}
 use Rattle.readings.specs.Readings.{preload1, steps, traced, seen, read, delay, cascade, turn, error, seventeen, pulses, table}
 
 pub readings : map read table ≡ map (λ r. r .numbers) table
-unfolding bit word tab difference masked caughtOf finished live resting nextOf settled advance clocked preloaded started captured popped resetChannel pinAt putPin pinLevel sensedWith driven resetPins virtualAt putVirtual virtualLevels resetVirtuals routed advanced ticks guarded watched kicked switched resetCore intervalWrite boardCall modeWrite registerWrite routeWrite snapshotRead channelCall limits limit fits pinCall virtualCall resetBoard extouts indexOf samplesOf inputsOf channelNext allNext respondBy respondWith respond finish sceneOf coreNext stepWith stepped preload1 steps traced seen read delay cascade turn error seventeen pulses table
+unfolding bit word some tab edgeReasons look counted masked asked loaded nextOf settled step advance clocked errs preloaded started captured popped resetChannel pinAt putPin pinLevel sensedWith driven resetPins virtualAt putVirtual virtualLevels resetVirtuals routed advanced ticks guarded watched kicked switched resetCore intervalWrite boardCall modeWrite registerWrite routeWrite snapshotRead channelCall limits limit fits pinCall virtualCall resetBoard extouts indexOf samplesOf inputsOf channelNext allNext refusalIn refusalBy acceptedBy respondBy respondWith respond finish sceneOf coreNext stepWith stepped preload1 steps traced seen read delay cascade turn error seventeen pulses table
 readings = refl

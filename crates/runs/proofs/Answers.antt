@@ -18,10 +18,9 @@ use Rattle.calls.specs.Fields.{isStep}
 use Rattle.calls.specs.Reply.{number}
 use Rattle.calls.specs.declared.Answer.{Answer}
 use Rattle.calls.specs.declared.Event.{Event}
-use Rattle.board.specs.Respond.{respondWith, stay, outcome}
+use Rattle.board.specs.Respond.{respond}
 use Rattle.board.specs.declared.Board.{Board}
-use Rattle.board.specs.declared.Outcome.{Outcome}
-use Rattle.board.proofs.Steps.{of-step, of-other}
+use Rattle.board.proofs.Steps.{of-step}
 use Rattle.runs.specs.After.{boardAfter, replyAt, AllSteps}
 use Rattle.runs.specs.Answers.{answerBytes, answersAfter, runResult}
 use Rattle.runs.proofs.After.{event-here, event-later}
@@ -61,13 +60,11 @@ module _ (b₀ : Board) (h out₀ : List ℕ) (i : ℕ) (out : List ℕ) (stands
       rw (zeros b₀ h i k all) (more out₀ 0 (answersAfter b₀ h i) (16 * i) out (replicate (16 * k) 0) (16 * (i + k)) out′ stands (to, made) room)
 
   -- that of one event more
-  pub call-stands : (b : Board) (e : Event) (r : Outcome) (out′ : List ℕ) → b ≡ boardAfter b₀ h i → e ≡ eventOf (take 16 (drop (16 * i) h)) → isStep e ≡ false
-      → r ≡ outcome (respondWith stay b e) → out′ ≡ put out (16 * i) (answerBytes (r .answer)) → 16 * (i + 1) ≤ length out₀
-      → Wrote out₀ 0 (answersAfter b₀ h (i + 1)) (16 * (i + 1)) out′
+  pub event-stands : (b : Board) (e : Event) (a : Answer) (out′ : List ℕ) → b ≡ boardAfter b₀ h i → e ≡ eventOf (take 16 (drop (16 * i) h)) → a ≡ respond b e .answer
+      → out′ ≡ put out (16 * i) (answerBytes a) → 16 * (i + 1) ≤ length out₀ → Wrote out₀ 0 (answersAfter b₀ h (i + 1)) (16 * (i + 1)) out′
   unfolding answersAfter
-  call-stands b e r out′ known read s made wrote room =
-      let told : answerBytes (r .answer) ≡ answerBytes (replyAt b₀ h i .answer) =
-      ap (λ (o : Outcome). answerBytes (o .answer)) (made ∙ ap outcome (of-other b e s)) ∙ rw (known, event-here h i e read) in
+  event-stands b e a out′ known read made wrote room =
+      let told : answerBytes a ≡ answerBytes (replyAt b₀ h i .answer) = ap answerBytes made ∙ rw (known, event-here h i e read) in
       let to : 16 * (i + 1) ≡ 16 * i + length (answerBytes (replyAt b₀ h i .answer)) = omega (arith, length-answer (replyAt b₀ h i .answer)) in
       more-joined out₀ 0 (λ j. answerBytes (replyAt b₀ h j .answer)) i (16 * i) out (16 * (i + 1)) out′ stands (to, wrote ∙ ap (put out (16 * i)) told) room
 

@@ -11,15 +11,13 @@ use crate::Line;
 use crate::Parsed;
 use crate::Text;
 use crate::reader;
+use buffers::RECORD;
 use calls::Event;
 
 // The bytes of the longest line, and the events of the longest history.
 const LONGEST: usize = 65535;
 
-const MOST: u64 = 2031585;
-
-// The bytes of a record.
-const RECORD: usize = 16;
+const MOST: u64 = history::RECORDS as u64;
 
 // What is wanted in a line of so many bytes that follows so many events.
 fn wanted_in(count: u64, size: usize, line: Line) -> u32

@@ -14,6 +14,8 @@ ghost use mathlib.Core.Path.{_≡_};
 ghost use Prim.Native.Nat.{_+_, _<_, _≤_};
 ghost use lib.ListN.{length};
 use board::Board;
+use history::AREA;
+use history::BLOCK;
 use history::Transfer;
 use libc::STDIN_FILENO;
 use libc::STDOUT_FILENO;
@@ -44,10 +46,8 @@ struct State {
     result: u8,
 }
 
-// The size of all buffers, and of a full block's records.
+// The size of all buffers.
 const SIZE: usize = 65536;
-
-const AREA: usize = 496;
 
 // A number as a length that fits a buffer.
 fn size(n: u64) -> usize
@@ -114,7 +114,7 @@ fn block_end(from: usize, n: usize) -> usize
     ensures { λ r. ⌜ from < r ⌝ }
     ensures { λ r. ⌜ r ≤ n ⌝ }
 {
-    if n - from > 512 { from + 512 } else { n }
+    if n - from > BLOCK { from + BLOCK } else { n }
 }
 
 // The state before the first place.
@@ -178,9 +178,9 @@ fn log_file(file: &[u8], out: &mut [u8]) -> usize
 }
 
 // A block of 31 accepted steps with the given number.
-fn steps_block(number: u32) -> [u8; 512] {
-    let records = [0u8; 496];
-    let mut block = [0u8; 512];
+fn steps_block(number: u32) -> [u8; BLOCK] {
+    let records = [0u8; AREA];
+    let mut block = [0u8; BLOCK];
     history::write_block(&mut block, &records, number);
     block
 }
@@ -368,7 +368,7 @@ fn recoded(h: &[u8]) -> bool {
 
 // Whether some records, printed as text and read again, are the same.
 fn is_reprinted(h: &[u8], text: &mut [u8]) -> bool {
-    let mut back = [0u8; 496];
+    let mut back = [0u8; AREA];
     let none = textout::no_run();
     let p = textout::print(none, h, true, text);
     let n = p.written;
@@ -377,7 +377,7 @@ fn is_reprinted(h: &[u8], text: &mut [u8]) -> bool {
     }
     let q = textin::parse(&text[..n], &mut back);
     let w = q.written;
-    if w > 496 {
+    if w > AREA {
         return false;
     }
     scan::same(h, &back[..w])

@@ -9,7 +9,8 @@ use lib.Dec.{eqb, eqb·zero-suc, eqb·suc-zero, eqb·suc-suc}
 use lib.Bits.{bitAnd, bitOr, bitXor, and-shr, or-shr, xor-shr, and-mod, or-mod, xor-mod}
 use lib.Arith.{mod-mul}
 use lib.Pow.{pow-pos, shl-exact}
-use Rattle.words.specs.Bits.{bit, flag, word}
+use borrow.Author.Tests.{ne-eqb}
+use Rattle.words.specs.Bits.{bit, flag, word, some}
 
 -- ---- a number by its lowest bit and its half
 
@@ -74,6 +75,17 @@ word-of (suc n) v =
 -- so it is the word of whatever its bits are
 pub is-word : (n v : ℕ) (f : ℕ → Bool) → ((i : ℕ) → i < n → bit v i ≡ f i) → v % 2 ^ n ≡ word n f
 is-word n v f h = word-of n v ∙ word-ext n (bit v) f h
+
+-- a word is not 0 where one of its bits is 1
+one-more : (t : Bool) (n : ℕ) → not (eqb (flag t + 2 * n) 0) ≡ (t || not (eqb n 0))
+one-more true n = rw (ne-eqb (1 + 2 * n) 0 (omega arith))
+one-more false zero = refl
+one-more false (suc n) = rw (ne-eqb (0 + 2 * suc n) 0 (omega arith), ne-eqb (suc n) 0 (omega arith))
+
+pub word-some : (n : ℕ) (f : ℕ → Bool) → not (eqb (word n f) 0) ≡ some n f
+unfolding word some
+word-some zero f = refl
+word-some (suc n) f = one-more (f zero) (word n (λ i. f (suc i))) ∙ ap (λ t. f zero || t) (word-some n (λ i. f (suc i)))
 
 -- ---- the operations, bit by bit
 

@@ -5,15 +5,29 @@ ghost use mathlib.Core.Path.{_≡_};
 ghost use Prim.Native.Nat.{_<_, _%_, _^_};
 ghost use mathlib.Core.Bool.{not, cond, _||_, _&&_};
 ghost use lib.Dec.{eqb};
-ghost use Rattle.words.specs.Bits.{bit, flag, word, putBit};
+ghost use Rattle.words.specs.Bits.{bit, flag, flags, word, putBit};
 ghost use Rattle.words.specs.Range.{below};
+
+// Words are below this, 2^48.
+pub const WORDS: u64 = 0x1_0000_0000_0000;
+
+// Every bit of a word.
+const ALL: u64 = WORDS - 1;
 
 // 1 for true, 0 for false.
 pub fn flag(b: bool) -> u32
-    ensures { λ r. ⌜ r ≡ flag b ⌝ }
-    ensures { λ r. ⌜ r < 2 ⌝ }
+    ensures is { λ r. ⌜ r ≡ flag b ⌝ }
+    ensures small { λ r. ⌜ r < 2 ⌝ }
 {
     if b { 1 } else { 0 }
+}
+
+// Four flags as the bits 0 to 3 of a number.
+pub fn flags(a: bool, b: bool, c: bool, d: bool) -> u32
+    ensures is { λ r. ⌜ r ≡ flags a b c d ⌝ }
+    ensures small { λ r. ⌜ r < 16 ⌝ }
+{
+    flag(a) + 2 * flag(b) + 4 * flag(c) + 8 * flag(d)
 }
 
 // `n` where it is below the limit, else the value at reset.
@@ -35,35 +49,35 @@ pub fn bit(w: u64, i: u64) -> bool
 pub fn either(a: u64, b: u64) -> u64
     ensures { λ r. ⌜ r ≡ word 48 (λ p. bit a p || bit b p) ⌝ }
 {
-    (a | b) % 281474976710656
+    (a | b) % WORDS
 }
 
 // The bits that both have.
 pub fn both(a: u64, b: u64) -> u64
     ensures { λ r. ⌜ r ≡ word 48 (λ p. bit a p && bit b p) ⌝ }
 {
-    (a & b) % 281474976710656
+    (a & b) % WORDS
 }
 
 // The bits of `a` that `b` has not.
 pub fn without(a: u64, b: u64) -> u64
     ensures { λ r. ⌜ r ≡ word 48 (λ p. bit a p && not (bit b p)) ⌝ }
 {
-    (a ^ (a & b)) % 281474976710656
+    (a ^ (a & b)) % WORDS
 }
 
 // `a` where `m` is 1, else `b`.
 pub fn select(m: u64, a: u64, b: u64) -> u64
     ensures { λ r. ⌜ r ≡ word 48 (λ p. cond (bit m p) (bit a p) (bit b p)) ⌝ }
 {
-    (b ^ (m & (a ^ b))) % 281474976710656
+    (b ^ (m & (a ^ b))) % WORDS
 }
 
 // `v` at every bit.
 pub fn all(v: bool) -> u64
     ensures { λ r. ⌜ r ≡ word 48 (λ p. v) ⌝ }
 {
-    if v { 281474976710655 } else { 0 }
+    if v { ALL } else { 0 }
 }
 
 // Bit `p` alone.
@@ -71,7 +85,7 @@ pub fn only(p: u64) -> u64
     requires { ⌜ p < 48 ⌝ }
     ensures { λ r. ⌜ r ≡ word 48 (λ i. eqb i p) ⌝ }
 {
-    (1 << p) % 281474976710656
+    (1 << p) % WORDS
 }
 
 // `w` with bit `p` at `v`.
@@ -86,5 +100,5 @@ pub fn put(w: u64, p: u64, v: bool) -> u64
 pub fn cut(w: u64) -> u64
     ensures { λ r. ⌜ r ≡ word 48 (bit w) ⌝ }
 {
-    w % 281474976710656
+    w % WORDS
 }

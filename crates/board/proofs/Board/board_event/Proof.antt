@@ -1,56 +1,16 @@
 -- `board::Board::board_event` meets its contract.
 -- Assumes nothing.
-use borrow.Author.Tests.{lt-ltb, le-ltb}
-use Rattle.board.specs.Respond.{respondBy}
+use Rattle.board.specs.Respond.{acceptedBy}
 use borrow.Author.Needs.{needs}
 use Rattle.board.proofs.Board.board_event.Statement.{statement}
 use Rattle.board.proofs.Board.board_event.Tie as tie
 
-refuse-requires : tie.Need-refuse-requires
-refuse-requires c κs = search needs
-
-returns : tie.Need-returns
-unfolding respondBy
-returns c =
-    let c₁ = c .before in
-    rw (c .refuse .ensures, le-ltb _ _ (c₁ .if1 .taken))
-
-fits-requires : tie.Need-fits-requires
-fits-requires c κs = search needs
-
 board-call-requires : tie.Need-board-call-requires
 board-call-requires c κs = search needs
 
-returns-2 : tie.Need-returns-2
-unfolding respondBy
-returns-2 c =
-    let c₁ = c .before in
-    let c₂ = c₁ .before in
-    let c₃ = c₂ .before in
-    let c₄ = c₃ .before in
-    let c₅ = c₄ .before in
-    let c₆ = c₅ .before in
-    rw (c₂ .board-call .ensures, lt-ltb _ _ (c₆ .if1 .left), ← c₅ .fits2 .ensures, c₄ .if2 .taken)
-
-refuse-requires-2 : tie.Need-refuse-requires-2
-refuse-requires-2 c κs = search needs
-
-returns-3 : tie.Need-returns-3
-unfolding respondBy
-returns-3 c =
-    let c₁ = c .before in
-    let c₂ = c₁ .before in
-    let c₃ = c₂ .before in
-    rw (c .refuse2 .ensures, lt-ltb _ _ (c₃ .if1 .left), ← c₂ .fits2 .ensures, c₁ .if2 .left)
+returns : tie.Need-returns
+unfolding acceptedBy
+returns c = rw (c .before .before .board-call .ensures)
 
 pub board-event-spec : {M : Type 1} → statement M
-board-event-spec =
-    tie.close
-    (tie.spec
-    refuse-requires
-    returns
-    fits-requires
-    board-call-requires
-    returns-2
-    refuse-requires-2
-    returns-3)
+board-event-spec = tie.close (tie.spec board-call-requires returns)

@@ -1,90 +1,86 @@
 -- `board::Board::call` meets its contract.
 -- Assumes nothing.
-use borrow.Author.Tests.{lt-ltb, le-ltb, ne-eqb}
-use Rattle.board.specs.Respond.{respondWith, respondBy}
+use mathlib.Core.Path.{_≡_, ap, sym, _∙_}
+use Rattle.board.proofs.Checks.{of-channel, of-pin, of-virtual, of-board, named, known, refused-event, passed-event}
+use Rattle.board.specs.Respond.{Class, step, channel, pin, virtual, board, classOf, refusalBy, acceptedBy, stay, outcome}
 use borrow.Author.Needs.{needs}
 use Rattle.board.proofs.Board.call.Statement.{statement}
 use Rattle.board.proofs.Board.call.Tie as tie
 
-kept-event-requires : tie.Need-kept-event-requires
-kept-event-requires c κs = search needs
-
-channel-event-requires : tie.Need-channel-event-requires
-channel-event-requires c κs = search needs
-
-pin-event-requires : tie.Need-pin-event-requires
-pin-event-requires c κs = search needs
-
-virtual-event-requires : tie.Need-virtual-event-requires
-virtual-event-requires c κs = search needs
-
-board-event-requires : tie.Need-board-event-requires
-board-event-requires c κs = search needs
+refusal-requires : tie.Need-refusal-requires
+refusal-requires c κs = search needs
 
 refuse-requires : tie.Need-refuse-requires
 refuse-requires c κs = search needs
 
 returns : tie.Need-returns
-unfolding respondWith
-returns c =
-    let c₁ = c .before in
-    rw (c .kept-event .ensures, c₁ .match .keys1)
+returns c = let a = c .before .before .before .args in
+    let r = c .before .before .refusal .ensures in
+    rw (c .refuse .ensures, r) (ap outcome (sym (refused-event stay (a .self) (a .e) (λ z. c .before .if1 .taken (r ∙ z)))))
+
+refuse-requires-2 : tie.Need-refuse-requires-2
+refuse-requires-2 c κs = search needs
+
+channel-event-requires : tie.Need-channel-event-requires
+unfolding refusalBy
+channel-event-requires c κs = let e = c .before .before .before .before .args .e in
+    named 6 e (sym (ap (λ (C : Class). refusalBy C e) (of-channel (e .kind) (c .before .match .rest .1) (c .if2 .taken))) ∙ sym (c .before .before .before .refusal .ensures) ∙ c .before .before .if1 .left)
+
+pin-event-requires : tie.Need-pin-event-requires
+unfolding refusalBy
+pin-event-requires c κs = let e = c .before .before .before .before .before .args .e in
+    named 48 e (sym (ap (λ (C : Class). refusalBy C e) (of-pin (e .kind) (c .before .before .match .rest .1) (c .before .if2 .left) (c .if3 .taken))) ∙ sym (c .before .before .before .before .refusal .ensures) ∙ c .before .before .before .if1 .left)
+
+virtual-event-requires : tie.Need-virtual-event-requires
+unfolding refusalBy
+virtual-event-requires c κs = let e = c .before .before .before .before .before .before .args .e in
+    named 6 e (sym (ap (λ (C : Class). refusalBy C e) (of-virtual (e .kind) (c .before .before .before .match .rest .1) (c .before .if3 .left) (c .if4 .taken))) ∙ sym (c .before .before .before .before .before .refusal .ensures) ∙ c .before .before .before .before .if1 .left)
+
+board-event-requires : tie.Need-board-event-requires
+board-event-requires c κs = search needs
 
 returns-2 : tie.Need-returns-2
-unfolding respondWith
-returns-2 c =
-    let c₁ = c .before in
-    let c₂ = c₁ .before in
-    rw (c .channel-event .ensures, ne-eqb _ _ (c₂ .match .rest .1), lt-ltb _ _ (c₁ .if1 .taken))
+unfolding acceptedBy
+returns-2 c = let a = c .before .before .before .before .args in
+    rw (c .refuse2 .ensures) (ap outcome (sym (passed-event stay (a .self) (a .e) step (ap classOf (c .before .match .keys1)) (sym (c .before .before .before .refusal .ensures) ∙ c .before .before .if1 .left))))
 
 returns-3 : tie.Need-returns-3
-unfolding respondWith
-returns-3 c =
-    let c₁ = c .before in
-    let c₂ = c₁ .before in
-    let c₃ = c₂ .before in
-    rw (c .pin-event .ensures, ne-eqb _ _ (c₃ .match .rest .1), le-ltb _ _ (c₂ .if1 .left), lt-ltb _ _ (c₁ .if2 .taken))
+returns-3 c = let a = c .before .before .before .before .before .args in
+    let e = a .e in
+    rw (c .channel-event .ensures)
+    (ap outcome (sym (passed-event stay (a .self) e channel (of-channel (e .kind) (c .before .before .match .rest .1) (c .before .if2 .taken)) (sym (c .before .before .before .before .refusal .ensures) ∙ c .before .before .before .if1 .left))))
 
 returns-4 : tie.Need-returns-4
-unfolding respondWith
-returns-4 c =
-    let c₁ = c .before in
-    let c₂ = c₁ .before in
-    let c₃ = c₂ .before in
-    let c₄ = c₃ .before in
-    rw (c .virtual-event .ensures, ne-eqb _ _ (c₄ .match .rest .1), le-ltb _ _ (c₃ .if1 .left), le-ltb _ _ (c₂ .if2 .left), lt-ltb _ _ (c₁ .if3 .taken))
+returns-4 c = let a = c .before .before .before .before .before .before .args in
+    let e = a .e in
+    rw (c .pin-event .ensures)
+    (ap outcome (sym (passed-event stay (a .self) e pin (of-pin (e .kind) (c .before .before .before .match .rest .1) (c .before .before .if2 .left) (c .before .if3 .taken)) (sym (c .before .before .before .before .before .refusal .ensures) ∙ c .before .before .before .before .if1 .left))))
 
 returns-5 : tie.Need-returns-5
-unfolding respondWith
-returns-5 c =
-    let c₁ = c .before in
-    let c₂ = c₁ .before in
-    let c₃ = c₂ .before in
-    let c₄ = c₃ .before in
-    let c₅ = c₄ .before in
-    rw (c .board-event .ensures, ne-eqb _ _ (c₅ .match .rest .1), le-ltb _ _ (c₄ .if1 .left), le-ltb _ _ (c₃ .if2 .left), le-ltb _ _ (c₂ .if3 .left), lt-ltb _ _ (c₁ .if4 .taken))
+returns-5 c = let a = c .before .before .before .before .before .before .before .args in
+    let e = a .e in
+    rw (c .virtual-event .ensures)
+    (ap outcome (sym (passed-event stay (a .self) e virtual (of-virtual (e .kind) (c .before .before .before .before .match .rest .1) (c .before .before .if3 .left) (c .before .if4 .taken)) (sym (c .before .before .before .before .before .before .refusal .ensures) ∙ c .before .before .before .before .before .if1 .left))))
 
 returns-6 : tie.Need-returns-6
-unfolding respondWith respondBy
-returns-6 c =
-    let c₁ = c .before in
-    let c₂ = c₁ .before in
-    let c₃ = c₂ .before in
-    let c₄ = c₃ .before in
-    let c₅ = c₄ .before in
-    rw (c .refuse .ensures, ne-eqb _ _ (c₅ .match .rest .1), le-ltb _ _ (c₄ .if1 .left), le-ltb _ _ (c₃ .if2 .left), le-ltb _ _ (c₂ .if3 .left), le-ltb _ _ (c₁ .if4 .left))
+returns-6 c = let a = c .before .before .before .before .before .before .before .args in
+    let e = a .e in
+    let n = c .before .before .before .before .match .rest .1 in
+    let r = sym (c .before .before .before .before .before .before .refusal .ensures) ∙ c .before .before .before .before .before .if1 .left in
+    rw (c .board-event .ensures) (ap outcome (sym (passed-event stay (a .self) e board (of-board (e .kind) n (c .before .if4 .left) (known e n r)) r)))
 
 pub call-spec : {M : Type 1} → statement M
 call-spec =
     tie.close
     (tie.spec
-    kept-event-requires
+    refusal-requires
+    refuse-requires
+    returns
+    refuse-requires-2
     channel-event-requires
     pin-event-requires
     virtual-event-requires
     board-event-requires
-    refuse-requires
-    returns
     returns-2
     returns-3
     returns-4

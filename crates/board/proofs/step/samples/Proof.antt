@@ -29,54 +29,24 @@ add-bit-2 c = search needs
 bit-requires-3 : tie.Need-bit-requires-3
 bit-requires-3 c κs = search needs
 
+xs-requires : tie.Need-xs-requires
+xs-requires c κs = search needs
+
 index-of-requires : tie.Need-index-of-requires
 index-of-requires c κs = search needs
 
 route-level-requires : tie.Need-route-level-requires
 route-level-requires c κs = search needs
 
-flag-requires : tie.Need-flag-requires
-flag-requires c κs = search needs
+ip-requires : tie.Need-ip-requires
+ip-requires c κs = search needs
 
-flag-requires-2 : tie.Need-flag-requires-2
-flag-requires-2 c κs = search needs
-
-mul-result : tie.Need-mul-result
-mul-result c = search needs
-
-add-result : tie.Need-add-result
-add-result c = search needs
-
-flag-requires-3 : tie.Need-flag-requires-3
-flag-requires-3 c κs = search needs
-
-mul-result-2 : tie.Need-mul-result-2
-mul-result-2 c = search needs
-
-add-result-2 : tie.Need-add-result-2
-add-result-2 c = search needs
-
-flag-requires-4 : tie.Need-flag-requires-4
-flag-requires-4 c κs = search needs
-
-mul-result-3 : tie.Need-mul-result-3
-mul-result-3 c = search needs
-
-add-result-3 : tie.Need-add-result-3
-add-result-3 c = search needs
+flags-requires : tie.Need-flags-requires
+flags-requires c κs = search needs
 
 returns : tie.Need-returns
 unfolding samplesOf
-returns c =
-    let c₁ = c .before in
-    let c₂ = c₁ .before in
-    let c₃ = c₂ .before in
-    let c₄ = c₃ .before in
-    let c₅ = c₄ .before in
-    let c₆ = c₅ .before in
-    let c₇ = c₆ .before in
-    let c₈ = c₇ .before in
-    rw (c .flag4 .ensures .0, c₁ .flag3 .ensures .0, c₂ .flag2 .ensures .0, c₃ .flag .ensures .0, c₄ .route-level .ensures, c₅ .index-of .ensures, c₆ .bit3 .ensures, c₇ .bit2 .ensures, c₈ .bit .ensures)
+returns c = rw (c .flags .ensures .0, c .before .ip .ensures, c .before .before .route-level .ensures, c .before .before .before .index-of .ensures, c .before .before .before .before .xs .ensures, c .before .before .before .before .before .bit3 .ensures, c .before .before .before .before .before .before .bit2 .ensures, c .before .before .before .before .before .before .before .bit .ensures)
 
 pub samples-spec : {M : Type 1} → statement M
 samples-spec =
@@ -90,16 +60,9 @@ samples-spec =
     mul-bit-3
     add-bit-2
     bit-requires-3
+    xs-requires
     index-of-requires
     route-level-requires
-    flag-requires
-    flag-requires-2
-    mul-result
-    add-result
-    flag-requires-3
-    mul-result-2
-    add-result-2
-    flag-requires-4
-    mul-result-3
-    add-result-3
+    ip-requires
+    flags-requires
     returns)

@@ -5,8 +5,8 @@ use borrow.Author.Needs.{needs}
 use Rattle.counter.proofs.Channel.preload.Statement.{statement}
 use Rattle.counter.proofs.Channel.preload.Tie as tie
 
-allows-preload-requires : tie.Need-allows-preload-requires
-allows-preload-requires c κs = search needs
+allowed-requires : tie.Need-allowed-requires
+allowed-requires c κs = search needs
 
 selected-requires : tie.Need-selected-requires
 selected-requires c κs = search needs
@@ -27,13 +27,13 @@ returns c =
     let c₂ = c₁ .before in
     let c₃ = c₂ .before in
     let c₄ = c₃ .before in
-    rw (c .armed-by-load .ensures, c₁ .flipped .ensures, c₂ .pick .ensures, c₃ .selected .ensures, c₄ .allows-preload .ensures)
+    rw (c .armed-by-load .ensures, c₁ .flipped .ensures, c₂ .pick .ensures, c₃ .selected .ensures, c₄ .allowed .ensures)
 
 pub preload-spec : {M : Type 1} → statement M
 preload-spec =
     tie.close
     (tie.spec
-    allows-preload-requires
+    allowed-requires
     selected-requires
     pick-requires
     flipped-requires

@@ -1,4 +1,4 @@
--- `counter::stages::masked` meets its contract. Bit by bit.
+-- `counter::stages::masked` meets its contract.
 -- Assumes nothing.
 use Rattle.words.proofs.BitLaws.{is-word, bit-and}
 use Rattle.counter.specs.Advance.{masked}
