@@ -7,9 +7,6 @@ use crate::ChannelReply;
 use crate::Event;
 use counter::Channel;
 
-// Reason bit 7: a soft snapshot.
-const SOFT: u32 = 128;
-
 // The call is refused, and the channel stays as it was.
 fn refuse(c: Channel, result: u32) -> ChannelReply
     ensures { λ r. ⌜ r ≡ channelReply (refuse result c) ⌝ }
@@ -129,7 +126,7 @@ fn halt(c: Channel) -> ChannelReply
 fn snapshot(c: Channel, timestamp: u32) -> ChannelReply
     ensures { λ r. ⌜ r ≡ channelReply (snapshot timestamp c) ⌝ }
 {
-    accept(c.capture(c.count, timestamp, SOFT))
+    accept(c.capture(c.count, timestamp, counter::SOFT))
 }
 
 // Call 9.

@@ -100,12 +100,9 @@ allowedNow m count now = (not (eqb (IM m) 2) || extin now) && allowed m count
 
 unfoldable pub loaded : ℕ → Bool → Counted → Channel → Loaded
 loaded now high k c =
-    let loads : Bool = asked (c .mode) (k .reasons) high && allowedNow (c .mode) (k .count) now in
-    record {
-      count = cond loads (selected c) (k .count);
-      second = flipped (c .mode) loads (c .second);
-      armed = armedByLoad (c .mode) loads (k .armed);
-    }
+    cond (asked (c .mode) (k .reasons) high && allowedNow (c .mode) (k .count) now)
+    (record { count = selected c; second = flipped (c .mode) (c .second); armed = armedByLoad (c .mode) (k .armed) })
+    (record { count = k .count; second = c .second; armed = k .armed })
 
 -- ---- ExtOut by OM: 0 low, 1 high with a match 0 or 1 capture, 2 preload 1 selected, 3 count not 0, 4 count 0; OP inverts
 

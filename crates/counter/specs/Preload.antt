@@ -1,6 +1,6 @@
 -- Document 01: the preload, and the start of a channel.
 -- Assumes nothing.
-use mathlib.Core.Bool.{Bool, true, not, cond, _&&_, _||_, Bool·beq}
+use mathlib.Core.Bool.{Bool, true, not, cond, _||_, Bool·beq}
 use Prim.Native.Nat.{ℕ}
 use lib.Dec.{eqb}
 use lib.ListN.{getD}
@@ -16,19 +16,18 @@ selected c = cond (c .second) (getD (c .preloads) 1 0) (getD (c .preloads) 0 0)
 abbrev pub allowed : ℕ → ℕ → Bool
 allowed m n = not (NR m) || eqb n 0
 
--- a preload, where there is one, lets BP select the other register
-abbrev pub flipped : ℕ → Bool → Bool → Bool
-flipped m loads s = not (Bool·beq s (loads && BP m))
+-- with BP a preload selects the other register
+abbrev pub flipped : ℕ → Bool → Bool
+flipped m s = not (Bool·beq s (BP m))
 
--- and TE 2 arms
-abbrev pub armedByLoad : ℕ → Bool → Bool → Bool
-armedByLoad m loads a = a || (loads && eqb (TE m) 2)
+-- and with TE 2 it arms
+abbrev pub armedByLoad : ℕ → Bool → Bool
+armedByLoad m a = a || eqb (TE m) 2
 
 -- a preload outside a step: the soft one and that of a start
 unfoldable pub preloaded : Channel → Channel
 preloaded c =
-    let loads : Bool = allowed (c .mode) (c .count) in
-    withLoad (cond loads (selected c) (c .count)) (flipped (c .mode) loads (c .second)) (armedByLoad (c .mode) loads (c .armed)) c
+    cond (allowed (c .mode) (c .count)) (withLoad (selected c) (flipped (c .mode) (c .second)) (armedByLoad (c .mode) (c .armed)) c) c
 
 -- start: of a halted channel, armed if TE is 0 and else disarmed, with a preload where TP 24 is set; a running one stays as it is
 unfoldable pub started : Channel → Channel

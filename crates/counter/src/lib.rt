@@ -23,6 +23,11 @@ pub const QUEUE: usize = 16;
 // Masks and reasons are below this, 9 bits.
 pub const REASONS: u32 = 512;
 
+// Reason bit 7, a soft snapshot, and bit 8, a quadrature error.
+pub const SOFT: u32 = 128;
+
+const ERROR: u32 = 256;
+
 // Samples are below this, 4 bits.
 const SAMPLES: u32 = 16;
 
@@ -143,13 +148,12 @@ impl Channel {
     pub fn preload(mut self) -> Channel
         ensures { λ r. ⌜ r ≡ preloaded self ⌝ }
     {
-        let loads = stages::allowed(self.mode, self.count);
-        let count = queue::pick(loads, self.selected(), self.count);
-        let second = stages::flipped(self.mode, loads, self.second);
-        let armed = stages::armed_by_load(self.mode, loads, self.armed);
-        self.count = count;
-        self.second = second;
-        self.armed = armed;
+        if stages::allowed(self.mode, self.count) {
+            let count = self.selected();
+            self.count = count;
+            self.second = stages::flipped(self.mode, self.second);
+            self.armed = stages::armed_by_load(self.mode, self.armed);
+        }
         self
     }
 
@@ -198,7 +202,7 @@ impl Channel {
             let d = difference::reversed(mode::ud(self.mode), turn.d);
             return Seen {
                 d: difference::gate(stages::counts(self.mode, armed, now), d),
-                reasons: stages::edge_reasons(self.kept, now) | (256 * words::flag(turn.error)),
+                reasons: stages::edge_reasons(self.kept, now) | (ERROR * words::flag(turn.error)),
                 high: samples::index(now),
                 armed: armed,
             };
@@ -244,8 +248,8 @@ impl Channel {
             if stages::allowed_now(self.mode, k.count, now) {
                 return Loaded {
                     count: self.selected(),
-                    second: stages::flipped(self.mode, true, self.second),
-                    armed: stages::armed_by_load(self.mode, true, k.armed),
+                    second: stages::flipped(self.mode, self.second),
+                    armed: stages::armed_by_load(self.mode, k.armed),
                 };
             }
         }
@@ -316,7 +320,7 @@ impl Channel {
     pub fn repair(mut self) -> Channel
         ensures { λ r. ⌜ r ≡ repaired self ⌝ }
     {
-        self.mode = queue::pick(mode::is_good(self.mode), self.mode, 0);
+        self.mode = mode::in_range(self.mode);
         self.route = words::below(ROUTES, UNROUTED, self.route);
         self.mask = words::below(REASONS, 0, self.mask);
         self.kept = words::below(SAMPLES, 0, self.kept);

@@ -1,5 +1,6 @@
 // The fields of the mode word, by their bits.
 ghost use mathlib.Core.Path.{_≡_};
+ghost use mathlib.Core.Bool.{cond};
 ghost use Prim.Native.Nat.{_+_, _<_};
 ghost use Rattle.words.specs.Bits.{word};
 ghost use Rattle.counter.specs.Mode.{XS, K, TD, TE, TP, OP, OM, BP, UD, NR, IM, IP, goodMode};
@@ -104,4 +105,11 @@ pub fn is_good(m: u32) -> bool
     ensures { λ r. ⌜ r ≡ goodMode m ⌝ }
 {
     (m < WORDS) & (te(m) < 3) & (td(m) < 3) & (im(m) < 3) & (om(m) < 5)
+}
+
+// A mode word handed in: one that a mode write refuses counts as 0.
+pub fn in_range(m: u32) -> u32
+    ensures { λ r. ⌜ r ≡ cond (goodMode m) m 0 ⌝ }
+{
+    if is_good(m) { m } else { 0 }
 }

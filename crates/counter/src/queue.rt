@@ -21,7 +21,7 @@ const LAST: usize = QUEUE - 1;
 pub const MOST_LOST: u32 = 0xffff_ffff;
 
 // `x` where `b`, else `y`.
-pub fn pick(b: bool, x: u32, y: u32) -> u32
+fn pick(b: bool, x: u32, y: u32) -> u32
     ensures { λ r. ⌜ r ≡ cond b x y ⌝ }
 {
     if b { x } else { y }
@@ -77,14 +77,13 @@ pub fn shift(a: [u32; QUEUE]) -> [u32; QUEUE]
 pub fn are_reasons(a: [u32; QUEUE]) -> bool
     ensures { λ r. ⌜ (r ≡ true → inReasons a ≡ a) ⌝ }
 {
+    let mut sound = true;
     let mut i: usize = 0;
     while i < QUEUE {
-        if REASONS <= a[i] {
-            return false;
-        }
+        sound = sound & (a[i] < REASONS);
         i += 1;
     }
-    true
+    sound
 }
 
 // Every place of the reasons' array in its range.

@@ -61,18 +61,18 @@ pub fn allowed_now(m: u32, count: u32, now: u32) -> bool
     (!(mode::im(m) == 2) | extin(now)) & allowed(m, count)
 }
 
-// The selection after a preload, where there is one.
-pub fn flipped(m: u32, loads: bool, second: bool) -> bool
-    ensures { λ r. ⌜ r ≡ flipped m loads second ⌝ }
+// The selection after a preload.
+pub fn flipped(m: u32, second: bool) -> bool
+    ensures { λ r. ⌜ r ≡ flipped m second ⌝ }
 {
-    second != (loads & mode::bp(m))
+    second != mode::bp(m)
 }
 
-// Armed after a preload, where there is one.
-pub fn armed_by_load(m: u32, loads: bool, armed: bool) -> bool
-    ensures { λ r. ⌜ r ≡ armedByLoad m loads armed ⌝ }
+// Armed after a preload.
+pub fn armed_by_load(m: u32, armed: bool) -> bool
+    ensures { λ r. ⌜ r ≡ armedByLoad m armed ⌝ }
 {
-    armed | (loads & (mode::te(m) == 2))
+    armed | (mode::te(m) == 2)
 }
 
 // ExtOut by OM, before OP.

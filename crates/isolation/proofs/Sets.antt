@@ -10,7 +10,7 @@ use Rattle.words.proofs.Cases.{tested, either}
 use Rattle.counter.specs.Mode.{TP}
 use Rattle.counter.specs.Setters.{withMode, withRoute}
 use Rattle.counter.specs.Queue.{captured, popped}
-use Rattle.counter.specs.Preload.{preloaded, started}
+use Rattle.counter.specs.Preload.{allowed, preloaded, started}
 use Rattle.counter.specs.Advance.{Inputs, settled, step, advance}
 use Rattle.counter.specs.declared.Channel.{Channel}
 use Rattle.counter.specs.declared.Next.{Next}
@@ -59,7 +59,7 @@ module _ (c : Channel) where
 
   preloaded-same : (d : Channel) → SameSettings c d → SameSettings c (preloaded d)
   unfolding preloaded
-  preloaded-same d a = record { mode = a .mode; route = a .route }
+  preloaded-same d a = either (SameSettings c) (allowed (d .mode) (d .count)) (record { mode = a .mode; route = a .route }) a
 
   started-same : SameSettings c (started c)
   unfolding started

@@ -7,7 +7,7 @@ use native.Mathlib.Omega.{arith}
 use lib.Dec.{eqb, ltb}
 use Rattle.counter.specs.Mode.{TP, goodMode}
 use Rattle.counter.specs.Setters.{withMode, withRoute, withLost}
-use Rattle.counter.specs.Preload.{preloaded, started}
+use Rattle.counter.specs.Preload.{allowed, preloaded, started}
 use Rattle.counter.specs.declared.Channel.{Channel}
 use Rattle.calls.specs.Reply.{Reply, refuse, accept}
 use Rattle.calls.specs.Fields.{limits, limit, fits}
@@ -21,7 +21,7 @@ use Rattle.reach.proofs.RangedQueue.{free, captured-ranged, popped-rang
 
 preloaded-ranged : (c : Channel) → ChannelInRange c → ChannelInRange (preloaded c)
 unfolding preloaded
-preloaded-ranged c r = free r
+preloaded-ranged c r = either ChannelInRange (allowed (c .mode) (c .count)) (free r) r
 
 started-ranged : (c : Channel) → ChannelInRange c → ChannelInRange (started c)
 unfolding started

@@ -1,26 +1,10 @@
 -- `counter::Channel::load` meets its contract.
 -- Assumes nothing.
-use mathlib.Core.Path.{_≡_, refl, sym, _∙_}
-use mathlib.Core.Bool.{Bool, true, false, not, _&&_, Bool·beq, or-false}
-use Prim.Native.Nat.{ℕ}
-use Rattle.counter.specs.declared.Counted.{Counted}
-use Rattle.counter.specs.declared.Channel.{Channel}
-use Rattle.counter.specs.Advance.{asked, allowedNow, loaded}
+use mathlib.Core.Path.{sym, _∙_}
+use Rattle.counter.specs.Advance.{loaded}
 use borrow.Author.Needs.{needs}
 use Rattle.counter.proofs.Channel.load.Statement.{statement}
 use Rattle.counter.proofs.Channel.load.Tie as tie
-
--- no preload, no flip
-unflipped : (b : Bool) → not (Bool·beq b false) ≡ b
-unflipped true = refl
-unflipped false = refl
-
-stays :
-    (now : ℕ) (high : Bool) (k : Counted) (c : Channel) →
-    (asked (c .mode) (k .reasons) high && allowedNow (c .mode) (k .count) now) ≡ false →
-    record { count = k .count; second = c .second; armed = k .armed } ≡ loaded now high k c
-unfolding loaded
-stays now high k c h = rw (h, unflipped (c .second), or-false (k .armed))
 
 asked-requires : tie.Need-asked-requires
 asked-requires c κs = search needs
@@ -44,15 +28,14 @@ returns c = let asks = sym (c .before .before .before .before .before .before .a
     rw (c .armed-by-load .ensures, c .before .flipped .ensures, c .before .before .selected .ensures, asks, allows)
 
 returns-2 : tie.Need-returns-2
-returns-2 c = let a = c .before .before .before .before .args in
-    let asks = sym (c .before .before .before .asked .ensures) ∙ c .before .before .if1 .taken in
+unfolding loaded
+returns-2 c = let asks = sym (c .before .before .before .asked .ensures) ∙ c .before .before .if1 .taken in
     let allows = sym (c .before .allowed-now .ensures) ∙ c .if2 .left in
-    stays (a .now) (a .high) (a .k) (a .self) (rw (asks, allows))
+    rw (asks, allows)
 
 returns-3 : tie.Need-returns-3
-returns-3 c = let a = c .before .before .args in
-    let asks = sym (c .before .asked .ensures) ∙ c .if1 .left in
-    stays (a .now) (a .high) (a .k) (a .self) (rw asks)
+unfolding loaded
+returns-3 c = rw (sym (c .before .asked .ensures) ∙ c .if1 .left)
 
 pub load-spec : {M : Type 1} → statement M
 load-spec =

@@ -1,5 +1,6 @@
 -- `counter::Channel::preload` meets its contract.
 -- Assumes nothing.
+use mathlib.Core.Path.{sym, _∙_}
 use Rattle.counter.specs.Preload.{preloaded}
 use borrow.Author.Needs.{needs}
 use Rattle.counter.proofs.Channel.preload.Statement.{statement}
@@ -11,9 +12,6 @@ allowed-requires c κs = search needs
 selected-requires : tie.Need-selected-requires
 selected-requires c κs = search needs
 
-pick-requires : tie.Need-pick-requires
-pick-requires c κs = search needs
-
 flipped-requires : tie.Need-flipped-requires
 flipped-requires c κs = search needs
 
@@ -22,12 +20,11 @@ armed-by-load-requires c κs = search needs
 
 returns : tie.Need-returns
 unfolding preloaded
-returns c =
-    let c₁ = c .before in
-    let c₂ = c₁ .before in
-    let c₃ = c₂ .before in
-    let c₄ = c₃ .before in
-    rw (c .armed-by-load .ensures, c₁ .flipped .ensures, c₂ .pick .ensures, c₃ .selected .ensures, c₄ .allowed .ensures)
+returns c = rw (c .armed-by-load .ensures, c .before .flipped .ensures, c .before .before .selected .ensures, sym (c .before .before .before .before .allowed .ensures) ∙ c .before .before .before .if1 .taken)
+
+returns-2 : tie.Need-returns-2
+unfolding preloaded
+returns-2 c = rw (sym (c .before .allowed .ensures) ∙ c .if1 .left)
 
 pub preload-spec : {M : Type 1} → statement M
 preload-spec =
@@ -35,7 +32,7 @@ preload-spec =
     (tie.spec
     allowed-requires
     selected-requires
-    pick-requires
     flipped-requires
     armed-by-load-requires
-    returns)
+    returns
+    returns-2)

@@ -6,11 +6,8 @@ use borrow.Author.Needs.{needs}
 use Rattle.counter.proofs.Channel.repair.Statement.{statement}
 use Rattle.counter.proofs.Channel.repair.Tie as tie
 
-is-good-requires : tie.Need-is-good-requires
-is-good-requires c κs = search needs
-
-pick-requires : tie.Need-pick-requires
-pick-requires c κs = search needs
+in-range-requires : tie.Need-in-range-requires
+in-range-requires c κs = search needs
 
 below-requires : tie.Need-below-requires
 below-requires c κs = search needs
@@ -32,28 +29,14 @@ below-requires-4 c κs = search needs
 
 returns : tie.Need-returns
 unfolding repaired
-returns c =
-    let carry = back (c .before .before .before .before .before .before .before .before .before .before .args .self .carry) (search needs) in
-    let k = c .before .before .before in
-    let m = k .before .before .before .before in
-    simp (
-      c .below4 .ensures,
-      c .before .in-reasons .ensures,
-      k .in-carry .ensures,
-      carry,
-      k .before .before .below3 .ensures,
-      k .before .before .before .below2 .ensures,
-      m .below .ensures,
-      m .before .pick .ensures,
-      m .before .before .is-good .ensures,
-    )
+returns c = let carry = back (c .before .before .before .before .before .before .before .before .before .args .self .carry) (search needs) in
+    rw (c .below4 .ensures, c .before .in-reasons .ensures, c .before .before .before .in-carry .ensures, carry, c .before .before .before .before .before .below3 .ensures, c .before .before .before .before .before .before .below2 .ensures, c .before .before .before .before .before .before .before .below .ensures, c .before .before .before .before .before .before .before .before .in-range .ensures)
 
 pub repair-spec : {M : Type 1} → statement M
 repair-spec =
     tie.close
     (tie.spec
-    is-good-requires
-    pick-requires
+    in-range-requires
     below-requires
     below-requires-2
     below-requires-3
