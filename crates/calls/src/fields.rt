@@ -5,16 +5,16 @@ ghost use Rattle.calls.specs.Fields.{limit, fits, isStep};
 use crate::Event;
 
 // The kinds, 0 to 29.
-const KINDS: usize = 30;
+pub const KINDS: u8 = 30;
 
 // V of a step is below this, three lines of six channels.
-const LINES: u32 = 0x4_0000;
+pub const LINES: u32 = 0x4_0000;
 
 // Every V is below this.
 const ANY: u64 = 0x1_0000_0000;
 
 // V is below this, kind by kind: 2 for one bit, 1 where V is unused.
-const LIMITS: [u64; KINDS] = [
+const LIMITS: [u64; KINDS as usize] = [
     LINES as u64, // 0 step
     counter::mode::WORDS as u64, // 1 mode write
     ANY, // 2 preload write
@@ -52,7 +52,7 @@ fn limit(kind: u8) -> u64
     ensures { λ r. ⌜ r ≡ limit kind ⌝ }
 {
     let at = kind as usize;
-    if at < KINDS { LIMITS[at] } else { 0 }
+    if kind < KINDS { LIMITS[at] } else { 0 }
 }
 
 // `x` where `b`, else `y`.

@@ -14,6 +14,8 @@ pub use board_calls::board_call;
 pub use channel_calls::channel_call;
 use control::Core;
 use counter::Channel;
+pub use fields::KINDS;
+pub use fields::LINES;
 pub use fields::fits;
 pub use fields::is_step;
 pub use pin_calls::pin_call;

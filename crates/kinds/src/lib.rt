@@ -14,6 +14,11 @@ pub struct Input {
     pub place: u64,
 }
 
+// The channels and the pins whose lines have names.
+const CHANNELS: u64 = 6;
+
+const PINS: u64 = 48;
+
 // How many names there are: 30 kinds and `raw`.
 const COUNT: usize = 31;
 
@@ -169,14 +174,14 @@ fn input_at(b: u8, n: u64) -> Input
     ensures { λ r. ⌜ r ≡ inputAt b n ⌝ }
 {
     let which = letter(b);
-    if (which < 3) & (n < 6) {
+    if (which < 3) & (n < CHANNELS) {
         return Input {
             good: true,
             pin: false,
             place: 3 * n + which,
         };
     }
-    if (b == b'p') & (n < 48) {
+    if (b == b'p') & (n < PINS) {
         return Input {
             good: true,
             pin: true,

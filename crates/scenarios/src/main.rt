@@ -14,6 +14,9 @@ use libc::STDIN_FILENO;
 use libc::STDOUT_FILENO;
 use textin::Text;
 
+// The number of channels.
+const CHANNELS: u64 = board::CHANNELS as u64;
+
 // The size of all buffers.
 const SIZE: usize = 65536;
 
@@ -263,7 +266,7 @@ fn run_answers(name: &[u8], text: &[u8], log: &[u8]) -> bool
 
 // ExtOut of a channel.
 fn extout(b: Board, n: u64) -> bool {
-    if n >= 6 {
+    if n >= CHANNELS {
         return false;
     }
     let channels = b.channels;
@@ -276,7 +279,7 @@ fn look(b: Board, o: Output) -> bool {
     if o.letter == b'x' {
         return extout(b, o.number);
     }
-    if o.number >= 48 {
+    if o.number >= ports::PINS {
         return false;
     }
     if o.letter == b'd' {
@@ -430,9 +433,9 @@ fn watch_text(text: &[u8], o: Output, out: &mut [u8], at: usize) -> usize
 // Whether there is such an output.
 fn is_output(letter: u8, number: u64) -> bool {
     if letter == b'x' {
-        return number < 6;
+        return number < CHANNELS;
     }
-    ((letter == b'd') | (letter == b'p')) & (number < 48)
+    ((letter == b'd') | (letter == b'p')) & (number < ports::PINS)
 }
 
 // The output that a line of the levels starts with, letter 0 if there is no such output.

@@ -136,7 +136,7 @@ pub fn parse(text: &[u8], out: &mut [u8]) -> Parsed
             wanted: t.wanted,
         };
     }
-    if (out.len() as u64) / 16 < t.count {
+    if ((out.len() / RECORD) as u64) < t.count {
         return Parsed {
             result: 10,
             written: 0,

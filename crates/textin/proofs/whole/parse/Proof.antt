@@ -32,8 +32,8 @@ write-requires c κs =
     let count = rw (← good .before .before .check .ensures) at (records-counted (good .before .before .before .before .before .args .text .now)) in
     omega (arith, count (good .if1 .left))
 
-mul-t11 : tie.Need-mul-t11
-mul-t11 c = search needs
+mul-t6 : tie.Need-mul-t6
+mul-t6 c = search needs
 
 same-length : tie.Need-same-length
 same-length c = search needs
@@ -48,4 +48,4 @@ returns-3 c =
 pub parse-spec : {M : Type 1} → statement M
 parse-spec =
     tie.close
-    (tie.spec check-requires returns returns-2 write-requires mul-t11 same-length returns-3)
+    (tie.spec check-requires returns returns-2 write-requires mul-t6 same-length returns-3)
