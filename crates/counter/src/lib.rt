@@ -265,7 +265,8 @@ impl Channel {
         ensures { λ r. ⌜ r ≡ nextOf now s self ⌝ }
     {
         let k = self.count_on(s);
-        let caught = stages::masked(self.mask, k.reasons);
+        let reasons = k.reasons;
+        let caught = stages::masked(self.mask, reasons);
         let l = self.load(now, s.high, k);
         Next {
             count: l.count,
