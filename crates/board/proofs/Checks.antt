@@ -5,9 +5,9 @@ use mathlib.Core.Bool.{Bool, true, false, true≢false}
 use Prim.Native.Nat.{ℕ, _<_, _≤_}
 use native.Mathlib.Omega.{arith}
 use borrow.Author.Tests.{lt-ltb, le-ltb, eq-eqb, ne-eqb, ltb-true, ltb-false}
-use lib.Dec.{eqb, ltb}
+use lib.Dec.{ltb}
 use Rattle.calls.specs.Fields.{fits, isStep}
-use Rattle.calls.specs.Reply.{Reply, refuse}
+use Rattle.calls.specs.Reply.{refuse}
 use Rattle.calls.specs.declared.Event.{Event}
 use Rattle.board.specs.Respond.{Class, step, channel, pin, virtual, board, unknown, classOf, refusalIn, refusalBy, refusal, acceptedBy, respondBy, respondWith}
 use Rattle.board.specs.declared.Board.{Board}

@@ -95,7 +95,7 @@ checked n b r = cond (eqb n 0) r (refuse n b)
 
 -- ---- every event
 
--- past the checks, by class, with a step that `stepOf` makes of V and W
+-- past the checks, by class, with a step that `stepOf` makes of V and W; an unknown kind does not get there
 unfoldable pub acceptedBy : (ℕ → ℕ → Board → Board) → Class → Board → Event → Reply Board
 acceptedBy stepOf step b e = accept (stepOf (e .v) (e .w) b)
 acceptedBy stepOf channel b e = onChannel (e .member) (channelCall (b .core .clock .timestamp) e) b

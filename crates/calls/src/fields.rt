@@ -8,10 +8,10 @@ use crate::Event;
 pub const KINDS: u8 = 30;
 
 // V of a step is below this, three lines of six channels.
-pub const LINES: u32 = 0x4_0000;
+pub const LINES: u32 = 1 << 18;
 
 // Every V is below this.
-const ANY: u64 = 0x1_0000_0000;
+const ANY: u64 = 1 << 32;
 
 // V is below this, kind by kind: 2 for one bit, 1 where V is unused.
 const LIMITS: [u64; KINDS as usize] = [

@@ -1,7 +1,7 @@
 -- Document 01, "The step": the samples that a step takes and keeps, and the edges between two steps.
 -- Assumes nothing.
 use mathlib.Core.Bool.{Bool, not, _&&_}
-use Prim.Native.Nat.{ℕ, _/_, _%_}
+use Prim.Native.Nat.{ℕ, _%_}
 use lib.Dec.{eqb}
 use Rattle.words.specs.Bits.{bitAt, flags}
 

@@ -6,7 +6,7 @@ ghost use Rattle.words.specs.Bits.{word};
 ghost use Rattle.counter.specs.Mode.{XS, K, TD, TE, TP, OP, OM, BP, UD, NR, IM, IP, goodMode};
 
 // Mode words are below this: bits 28 to 31 are 0.
-pub const WORDS: u32 = 0x1000_0000;
+pub const WORDS: u32 = 1 << 28;
 
 // Where the index comes from.
 pub fn xs(m: u32) -> u32

@@ -17,8 +17,8 @@ pub const LENGTHS: u32 = ROOM + 1;
 // The last place of an array.
 const LAST: usize = QUEUE - 1;
 
-// The lost count stays at this.
-pub const MOST_LOST: u32 = 0xffff_ffff;
+// The lost count stays at this, 2^32 - 1.
+pub const MOST_LOST: u32 = 4_294_967_295;
 
 // `x` where `b`, else `y`.
 fn pick(b: bool, x: u32, y: u32) -> u32

@@ -5,7 +5,7 @@ use mathlib.Core.Path.{_≡_, refl, ap, sym, _∙_, subst, subst⁻¹}
 use mathlib.Core.Bool.{Bool, true, false, cond, not, _||_, and-eq-true-iff, true≢false, false≢true}
 use Prim.Native.Nat.{ℕ, _<_, _/_, _^_}
 use lib.Dec.{eqb, ltb}
-use borrow.Author.Tests.{ltb-true, lt-ltb, eqb-true, not-true, not-false}
+use borrow.Author.Tests.{lt-ltb, eqb-true, not-true, not-false}
 use Rattle.words.proofs.BitLaws.{word-lt}
 use Rattle.words.proofs.Cases.{either}
 use Rattle.counter.specs.Mode.{goodMode}

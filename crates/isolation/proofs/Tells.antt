@@ -8,7 +8,6 @@ use lib.Dec.{eqb}
 use lib.ListN.{getD-replicate}
 use borrow.Author.Tests.{eqb-false, eq-eqb, ne-eqb}
 use Rattle.words.proofs.BitLaws.{bit-none}
-use Rattle.words.proofs.Cases.{tested}
 use Rattle.counter.specs.Repair.{noChannel, resetChannel}
 use Rattle.counter.specs.declared.Channel.{Channel}
 use Rattle.ports.specs.Pins.{pinAt, sensedWith, driven, resetPins}

@@ -25,7 +25,7 @@ use Rattle.board.specs.Handed.{lostCleared}
 use Rattle.board.specs.declared.Board.{Board}
 use Rattle.board.specs.declared.Scene.{Scene}
 use Rattle.reach.specs.Range.{ChannelInRange, InRange}
-use Rattle.words.proofs.Cases.{tested, taken}
+use Rattle.words.proofs.Cases.{taken}
 use Rattle.words.proofs.Tables.{length-tab, getD-tab, set-keeps}
 use Rattle.reach.proofs.Sound.{Sound, refusal, done, put-back}
 use Rattle.reach.proofs.RangedStep.{samples-lt, advance-ranged}

@@ -8,8 +8,8 @@ ghost use lib.Dec.{eqb};
 ghost use Rattle.words.specs.Bits.{bit, flag, flags, word, putBit};
 ghost use Rattle.words.specs.Range.{below};
 
-// Words are below this, 2^48.
-pub const WORDS: u64 = 0x1_0000_0000_0000;
+// Words are below this, 48 bits.
+pub const WORDS: u64 = 1 << 48;
 
 // Every bit of a word.
 const ALL: u64 = WORDS - 1;

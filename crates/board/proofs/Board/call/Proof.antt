@@ -1,6 +1,6 @@
 -- `board::Board::call` meets its contract.
 -- Assumes nothing.
-use mathlib.Core.Path.{_≡_, ap, sym, _∙_}
+use mathlib.Core.Path.{ap, sym, _∙_}
 use Rattle.board.proofs.Checks.{of-channel, of-pin, of-virtual, of-board, named, known, refused-event, passed-event}
 use Rattle.board.specs.Respond.{Class, step, channel, pin, virtual, board, classOf, refusalBy, acceptedBy, stay, outcome}
 use borrow.Author.Needs.{needs}

@@ -1,8 +1,7 @@
 -- `board::respond::refusal` meets its contract.
 -- Assumes nothing.
-use mathlib.Core.Path.{ap, sym, _∙_}
 use Rattle.board.proofs.Checks.{of-channel, of-pin, of-virtual, of-board, of-unknown}
-use Rattle.board.specs.Respond.{Class, refusalBy}
+use Rattle.board.specs.Respond.{refusalBy}
 use borrow.Author.Needs.{needs}
 use Rattle.board.proofs.respond.refusal.Statement.{statement}
 use Rattle.board.proofs.respond.refusal.Tie as tie

@@ -10,7 +10,7 @@ use Rattle.counter.proofs.Signed.{back}
 use Rattle.counter.specs.declared.Seen.{Seen}
 use Rattle.counter.specs.declared.Channel.{Channel}
 use Rattle.words.specs.Table.{tab}
-use Rattle.counter.specs.Advance.{look, step, advance, inputs}
+use Rattle.counter.specs.Advance.{look, step, advance}
 use borrow.Author.Needs.{needs}
 use Rattle.board.proofs.step.advance_all.Statement.{statement}
 use Rattle.board.proofs.step.advance_all.Tie as tie
