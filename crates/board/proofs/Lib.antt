@@ -1,3 +1,4 @@
 pub mod Checks
 pub mod Steps
 pub mod Same
+pub mod Kept

@@ -1,33 +1,62 @@
--- The repair leaves a board in range alone.
+-- A board in range, part by part. The repair leaves such a board alone, and makes one.
 -- Assumes nothing.
-use mathlib.Core.Path.{_≡_, refl, _∙_}
-use mathlib.Core.List.{List, [], _∷_}
+use mathlib.Core.Path.{_≡_}
+use mathlib.Core.Bool.{true, and-eq-true-iff}
+use Prim.Native.Nat.{ℕ, _<_}
 use lib.ListN.{length}
-use Rattle.words.specs.Table.{tab}
-use Rattle.counter.specs.Repair.{repaired, noChannel}
-use Rattle.counter.specs.declared.Channel.{Channel}
-use Rattle.words.proofs.Tables.{tab-same}
-use Rattle.ports.specs.Pins.{repairedPins}
-use Rattle.ports.specs.Virtuals.{repairedVirtuals}
-use Rattle.control.specs.Whole.{repairedCore}
+use borrow.Author.Tests.{eqb-true, eq-eqb}
+use Rattle.words.proofs.Every.{every-at, every-by}
+use Rattle.words.proofs.Tables.{tab-same, length-tab, getD-tab}
+use Rattle.counter.specs.Repair.{channelInRange, repaired, noChannel}
+use Rattle.counter.proofs.Same.{ChannelInRange, channel-fields, channel-whole, channel-same, channel-repaired}
+use Rattle.ports.proofs.Same.{PinsInRange, pins-fields, pins-whole, pins-same, pins-repaired, VirtualsInRange, virtuals-fields, virtuals-whole, virtuals-same, virtuals-repaired}
+use Rattle.control.proofs.Same.{CoreInRange, core-fields, core-whole, core-same, core-repaired}
 use Rattle.board.specs.Inputs.{channelIn}
-use Rattle.board.specs.Handed.{repairedBoard}
+use Rattle.board.specs.Handed.{inRange, repairedBoard}
 use Rattle.board.specs.declared.Board.{Board}
 
--- the six channels, each by itself
-pub channels-same : (cs : List Channel) → length cs ≡ 6
-    → repaired (channelIn cs 0) ≡ channelIn cs 0 → repaired (channelIn cs 1) ≡ channelIn cs 1 → repaired (channelIn cs 2) ≡ channelIn cs 2
-    → repaired (channelIn cs 3) ≡ channelIn cs 3 → repaired (channelIn cs 4) ≡ channelIn cs 4 → repaired (channelIn cs 5) ≡ channelIn cs 5
-    → tab 6 (λ c. repaired (channelIn cs c)) ≡ cs
-unfolding tab
-channels-same cs s h₀ h₁ h₂ h₃ h₄ h₅ = (λ i. h₀ i ∷ h₁ i ∷ h₂ i ∷ h₃ i ∷ h₄ i ∷ h₅ i ∷ []) ∙ tab-same 6 (λ c. channelIn cs c) cs noChannel s (λ i h. refl)
+pub record InRange (b : Board) : Type 0 where
+  pub six : length (b .channels) ≡ 6
+  pub channels : (c : ℕ) → c < 6 → ChannelInRange (channelIn (b .channels) c)
+  pub pins : PinsInRange (b .pins)
+  pub virtuals : VirtualsInRange (b .virtuals)
+  pub core : CoreInRange (b .core)
 
-pub board-same : (b : Board) → tab 6 (λ c. repaired (channelIn (b .channels) c)) ≡ b .channels
-    → repairedPins (b .pins) ≡ b .pins → repairedVirtuals (b .virtuals) ≡ b .virtuals → repairedCore (b .core) ≡ b .core → repairedBoard b ≡ b
+module _ (b : Board) where
+  pub board-fields : inRange b ≡ true → InRange b
+  unfolding inRange
+  board-fields h =
+      let h₄ = and-eq-true-iff _ _ .0 h in
+      let h₃ = and-eq-true-iff _ _ .0 (h₄ .0) in
+      let h₂ = and-eq-true-iff _ _ .0 (h₃ .0) in
+      let h₁ = and-eq-true-iff _ _ .0 (h₂ .0) in
+      record {
+        six = eqb-true _ 6 (h₁ .0);
+        channels = λ c k. channel-fields _ (every-at 6 _ (h₁ .1) c k);
+        pins = pins-fields (b .pins) (h₂ .1);
+        virtuals = virtuals-fields (b .virtuals) (h₃ .1);
+        core = core-fields (b .core) (h₄ .1);
+      }
+
+  pub board-whole : InRange b → inRange b ≡ true
+  unfolding inRange
+  board-whole r =
+      rw (eq-eqb (length (b .channels)) 6 (r .six), pins-whole (b .pins) (r .pins), virtuals-whole (b .virtuals) (r .virtuals), core-whole (b .core) (r .core))
+      (rw (every-by 6 (λ c. channelInRange (channelIn (b .channels) c)) (λ c k. channel-whole _ (r .channels c k))))
+
+  pub board-same : inRange b ≡ true → repairedBoard b ≡ b
+  unfolding repairedBoard
+  board-same h =
+      let r = board-fields h in
+      let channels = tab-same 6 (λ c. repaired (channelIn (b .channels) c)) (b .channels) noChannel (r .six) (λ c k. channel-same _ (channel-whole _ (r .channels c k))) in
+      rw (channels, pins-same (b .pins) (pins-whole _ (r .pins)), virtuals-same (b .virtuals) (virtuals-whole _ (r .virtuals)), core-same (b .core) (core-whole _ (r .core)))
+
+pub board-repaired : (b : Board) → inRange (repairedBoard b) ≡ true
 unfolding repairedBoard
-board-same b channels pins virtuals core = λ i. record {
-  channels = channels i;
-  pins = pins i;
-  virtuals = virtuals i;
-  core = core i;
-}
+board-repaired b = board-whole (repairedBoard b) (record {
+  six = length-tab 6 _;
+  channels = λ c k. rw getD-tab (channel-fields _ (channel-repaired (channelIn (b .channels) c)));
+  pins = pins-fields _ (pins-repaired (b .pins));
+  virtuals = virtuals-fields _ (virtuals-repaired (b .virtuals));
+  core = core-fields _ (core-repaired (b .core));
+})

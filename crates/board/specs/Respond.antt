@@ -1,5 +1,5 @@
--- Document 01: every event on a board whose fields are in their ranges. The refusals 2, 1 and 3 are decided here, in this order; 4, 7, 6 and 5 by
--- the calls.
+-- Document 01: every event on a board whose fields are in their ranges. An accepted step is a step; every other event is a call, and kind 0
+-- among these a step whose fields did not fit. The refusals 2, 1 and 3 are decided here, in this order; 4, 7, 6 and 5 by the calls.
 -- Assumes nothing.
 use mathlib.Core.Bool.{cond}
 use mathlib.Core.List.{List}
@@ -7,33 +7,28 @@ use Prim.Native.Nat.{ℕ}
 use lib.Dec.{eqb, ltb}
 use lib.ListN.{set}
 use Rattle.counter.specs.declared.Channel.{Channel}
-use Rattle.ports.specs.Pins.{pinAt, putPin}
-use Rattle.ports.specs.Virtuals.{virtualAt, putVirtual}
-use Rattle.ports.specs.declared.Pin.{Pin}
 use Rattle.ports.specs.declared.Pins.{Pins}
-use Rattle.ports.specs.declared.Virtual.{Virtual}
 use Rattle.ports.specs.declared.Virtuals.{Virtuals}
 use Rattle.control.specs.declared.Core.{Core}
 use Rattle.calls.specs.Reply.{Reply, reply, refuse, accept}
-use Rattle.calls.specs.Fields.{fits}
+use Rattle.calls.specs.Fields.{isStep, fits}
 use Rattle.calls.specs.ChannelCalls.{channelCall}
-use Rattle.calls.specs.PinCalls.{pinCall}
-use Rattle.calls.specs.VirtualCalls.{virtualCall}
+use Rattle.calls.specs.PinCalls.{pinsCall}
+use Rattle.calls.specs.VirtualCalls.{virtualsCall}
 use Rattle.calls.specs.BoardCalls.{boardCall}
 use Rattle.calls.specs.declared.Event.{Event}
 use Rattle.board.specs.Inputs.{channelIn}
 use Rattle.board.specs.Step.{stepped}
+use Rattle.board.specs.declared.Class.{Class}
+use Rattle.board.specs.declared.Class.the-variants.{Step, OnChannel, OnPin, OnVirtual, OnBoard, Unknown}
 use Rattle.board.specs.declared.Board.{Board}
 use Rattle.board.specs.declared.Outcome.{Outcome}
 
 -- ---- the classes of kinds
 
-pub data Class : Type 0 where
-  step channel pin virtual board unknown : Class
-
 abbrev pub classOf : ℕ → Class
 classOf k =
-    cond (eqb k 0) step (cond (ltb k 13) channel (cond (ltb k 18) pin (cond (ltb k 22) virtual (cond (ltb k 30) board unknown))))
+    cond (eqb k 0) Step (cond (ltb k 13) OnChannel (cond (ltb k 18) OnPin (cond (ltb k 22) OnVirtual (cond (ltb k 30) OnBoard Unknown))))
 
 -- ---- a board with one of its parts changed
 
@@ -49,73 +44,70 @@ withVirtuals x b = record { channels = b .channels; pins = b .pins; virtuals = x
 abbrev pub withCore : Core → Board → Board
 withCore k b = record { channels = b .channels; pins = b .pins; virtuals = b .virtuals; core = k }
 
--- ---- a call on a member's own record, put back in its place
+-- ---- a call on a part of the board, put back in its place
 
 abbrev pub onChannel : ℕ → (Channel → Reply Channel) → Board → Reply Board
 onChannel m f b =
     let r : Reply Channel = f (channelIn (b .channels) m) in
     reply (withChannels (set (b .channels) m (r .state)) b) (r .answer)
 
-abbrev pub onPin : ℕ → (Pin → Reply Pin) → Board → Reply Board
-onPin m f b =
-    let r : Reply Pin = f (pinAt (b .pins) m) in
-    reply (withPins (putPin m (r .state) (b .pins)) b) (r .answer)
+abbrev pub onPins : (Pins → Reply Pins) → Board → Reply Board
+onPins f b =
+    let r : Reply Pins = f (b .pins) in
+    reply (withPins (r .state) b) (r .answer)
 
-abbrev pub onVirtual : ℕ → (Virtual → Reply Virtual) → Board → Reply Board
-onVirtual m f b =
-    let r : Reply Virtual = f (virtualAt (b .virtuals) m) in
-    reply (withVirtuals (putVirtual m (r .state) (b .virtuals)) b) (r .answer)
+abbrev pub onVirtuals : (Virtuals → Reply Virtuals) → Board → Reply Board
+onVirtuals f b =
+    let r : Reply Virtuals = f (b .virtuals) in
+    reply (withVirtuals (r .state) b) (r .answer)
 
 abbrev pub onCore : (Core → Reply Core) → Board → Reply Board
 onCore f b =
     let r : Reply Core = f (b .core) in
     reply (withCore (r .state) b) (r .answer)
 
--- ---- the refusals 2, 1 and 3, in this order
+-- ---- an event that is no accepted step
 
 -- 1 where the member is not one of n, 3 where a field does not fit, else 0
 unfoldable pub refusalIn : ℕ → Event → ℕ
 refusalIn n e = cond (ltb (e .member) n) (cond (fits e) 0 3) 1
 
--- the member of a step is one of its fields
+-- what the checks on kind, member and fields find: 2, 1, 3, or 0 for nothing; a step is here because its fields did not fit
 unfoldable pub refusalBy : Class → Event → ℕ
-refusalBy step e = cond (fits e) 0 3
-refusalBy channel e = refusalIn 6 e
-refusalBy pin e = refusalIn 48 e
-refusalBy virtual e = refusalIn 6 e
-refusalBy board e = refusalIn 1 e
-refusalBy unknown e = 2
+refusalBy Step e = 3
+refusalBy OnChannel e = refusalIn 6 e
+refusalBy OnPin e = refusalIn 48 e
+refusalBy OnVirtual e = refusalIn 6 e
+refusalBy OnBoard e = refusalIn 1 e
+refusalBy Unknown e = 2
 
-abbrev pub refusal : Event → ℕ
-refusal e = refusalBy (classOf (e .kind)) e
+-- past the checks, on the part of the board that the class names; a step or an unknown kind does not get there
+unfoldable pub passedBy : Class → Board → Event → Reply Board
+passedBy Step b e = accept b
+passedBy OnChannel b e = onChannel (e .member) (channelCall (b .core .clock .timestamp) e) b
+passedBy OnPin b e = onPins (pinsCall (b .core .safety .writes) e) b
+passedBy OnVirtual b e = onVirtuals (virtualsCall (b .core .safety .writes) e) b
+passedBy OnBoard b e = onCore (boardCall e) b
+passedBy Unknown b e = accept b
 
 -- r where the checks found nothing, else their result and the board as it was
 abbrev pub checked : ℕ → Board → Reply Board → Reply Board
 checked n b r = cond (eqb n 0) r (refuse n b)
 
+unfoldable pub calledBy : Class → Board → Event → Reply Board
+calledBy C b e = checked (refusalBy C e) b (passedBy C b e)
+
+abbrev pub called : Board → Event → Reply Board
+called b e = calledBy (classOf (e .kind)) b e
+
 -- ---- every event
 
--- past the checks, by class, with a step that `stepOf` makes of V and W; an unknown kind does not get there
-unfoldable pub acceptedBy : (ℕ → ℕ → Board → Board) → Class → Board → Event → Reply Board
-acceptedBy stepOf step b e = accept (stepOf (e .v) (e .w) b)
-acceptedBy stepOf channel b e = onChannel (e .member) (channelCall (b .core .clock .timestamp) e) b
-acceptedBy stepOf pin b e = onPin (e .member) (pinCall (b .core .safety .writes) e) b
-acceptedBy stepOf virtual b e = onVirtual (e .member) (virtualCall (b .core .safety .writes) e) b
-acceptedBy stepOf board b e = onCore (boardCall e) b
-acceptedBy stepOf unknown b e = refuse 2 b
-
-unfoldable pub respondBy : (ℕ → ℕ → Board → Board) → Class → Board → Event → Reply Board
-respondBy stepOf C b e = checked (refusalBy C e) b (acceptedBy stepOf C b e)
-
+-- with a step that `stepOf` makes of V and W
 unfoldable pub respondWith : (ℕ → ℕ → Board → Board) → Board → Event → Reply Board
-respondWith stepOf b e = respondBy stepOf (classOf (e .kind)) b e
+respondWith stepOf b e = cond (isStep e) (accept (stepOf (e .v) (e .w) b)) (called b e)
 
 unfoldable pub respond : Board → Event → Reply Board
 respond b e = respondWith stepped b e
-
--- no step at all: the machine of every event but an accepted step
-abbrev pub stay : ℕ → ℕ → Board → Board
-stay v w b = b
 
 -- the same, as the code's struct has it
 abbrev pub outcome : Reply Board → Outcome

@@ -5,7 +5,7 @@ use mathlib.Core.List.{List}
 use Prim.Native.Nat.{ℕ}
 use Rattle.words.specs.Bits.{bit}
 use Rattle.counter.specs.declared.Channel.{Channel}
-use Rattle.ports.specs.Pins.{pinLevel, sensedWith, driven}
+use Rattle.ports.specs.Pins.{sensed, driven}
 use Rattle.ports.specs.Virtuals.{virtualLevels}
 use Rattle.ports.specs.declared.Pins.{Pins}
 use Rattle.control.specs.Clock.{advanced, risesAt, ticks}
@@ -38,11 +38,11 @@ coreNext pin47 k =
     let dog : Watchdog = watched (k .watchdog) in
     record { clock = advanced (k .clock); watchdog = dog; safety = guarded (dog .expired) pin47 (k .safety) }
 
--- with pin levels that `level` gives from the pins and W
-unfoldable pub stepWith : (Pins → ℕ → ℕ → Bool) → ℕ → ℕ → Board → Board
-stepWith level v w b =
+-- with what `sense` makes of W and the pins for their levels
+unfoldable pub stepWith : (ℕ → Pins → Pins) → ℕ → ℕ → Board → Board
+stepWith sense v w b =
     -- part 2
-    let pins : Pins = sensedWith level w (b .pins) in
+    let pins : Pins = sense w (b .pins) in
     -- parts 1, 3 and 4
     let core : Core = coreNext (bit (pins .level) 47) (b .core) in
     -- part 5
@@ -57,4 +57,4 @@ stepWith level v w b =
     }
 
 unfoldable pub stepped : ℕ → ℕ → Board → Board
-stepped v w b = stepWith pinLevel v w b
+stepped v w b = stepWith sensed v w b

@@ -1,8 +1,7 @@
 // The entry point: any board, any event.
 ghost use mathlib.Core.Path.{_≡_};
-ghost use mathlib.Core.Bool.{true};
 ghost use Rattle.board.specs.Respond.{outcome};
-ghost use Rattle.board.specs.Handed.{resetBoard, repairedBoard, lostCleared, applied};
+ghost use Rattle.board.specs.Handed.{resetBoard, inRange, repairedBoard, lostCleared, applied};
 ghost use Rattle.counter.specs.Repair.{repaired};
 use crate::Board;
 use crate::CHANNELS;
@@ -42,9 +41,9 @@ impl Board {
         }
     }
 
-    // Every field is in its range, so that the repair changes nothing.
-    fn is_sound(self) -> bool
-        ensures { λ r. ⌜ (r ≡ true → repairedBoard self ≡ self) ⌝ }
+    // Every field is in its range.
+    pub fn is_sound(self) -> bool
+        ensures { λ r. ⌜ r ≡ inRange self ⌝ }
     {
         let cs = self.channels;
         let pins = self.pins;
@@ -68,7 +67,7 @@ impl Board {
     }
 
     // The lost count of a channel to 0.
-    fn clear_lost(mut self, member: u8) -> Board
+    pub fn clear_lost(mut self, member: u8) -> Board
         ensures { λ r. ⌜ r ≡ lostCleared member self ⌝ }
     {
         let m = member as usize;
@@ -91,19 +90,18 @@ fn mended(board: Board) -> Board
     board.repair()
 }
 
-// The answer of any event on any board, and the next board. A step on a sound board needs no repair.
+// The answer of any event on any board, and the next board.
 pub fn apply(board: Board, event: Event) -> Outcome
     ensures { λ r. ⌜ r ≡ outcome (applied board event) ⌝ }
 {
+    let sound = mended(board);
     if calls::is_step(event) {
-        if board.is_sound() {
-            return Outcome {
-                board: board.step(event.v, event.w),
-                answer: calls::number(0, 0),
-            };
-        }
+        return Outcome {
+            board: sound.step(event.v, event.w),
+            answer: calls::number(0, 0),
+        };
     }
-    let r = mended(board).respond(event);
+    let r = sound.call(event);
     let answer = r.answer;
     if answer.result == 0 {
         return r;

@@ -13,6 +13,7 @@ pub use entry::apply;
 pub use entry::reset;
 use ports::Pins;
 use ports::Virtuals;
+pub use respond::class_of;
 pub use respond::refusal;
 
 // The number of channels.
@@ -24,6 +25,16 @@ pub struct Board {
     pub pins: Pins,
     pub virtuals: Virtuals,
     pub core: Core,
+}
+
+// The classes of kinds.
+pub enum Class {
+    Step,
+    OnChannel,
+    OnPin,
+    OnVirtual,
+    OnBoard,
+    Unknown,
 }
 
 #[repr(C)]

@@ -1,9 +1,10 @@
-// Every event on a board whose fields are in their ranges.
+// Every event but an accepted step, on a board whose fields are in their ranges.
 ghost use mathlib.Core.Path.{_≡_};
-ghost use Rattle.calls.specs.Reply.{refuse};
 ghost use Prim.Native.Nat.{_<_};
-ghost use Rattle.board.specs.Respond.{step, channel, pin, virtual, board, refusalIn, refusalBy, refusal, acceptedBy, respondWith, respond, stay, outcome};
+ghost use Rattle.calls.specs.Reply.{refuse};
+ghost use Rattle.board.specs.Respond.{classOf, refusalIn, refusalBy, passedBy, called, outcome};
 use crate::Board;
+use crate::Class;
 use crate::Outcome;
 use calls::Event;
 
@@ -30,7 +31,7 @@ impl Board {
     // Calls 1 to 12, past the checks.
     fn channel_event(mut self, e: Event) -> Outcome
         requires { ⌜ e .member < 6 ⌝ }
-        ensures { λ r. ⌜ r ≡ outcome (acceptedBy stay channel self e) ⌝ }
+        ensures { λ r. ⌜ r ≡ outcome (passedBy Class.OnChannel self e) ⌝ }
     {
         let m = e.member as usize;
         let c = self.channels[m];
@@ -47,14 +48,13 @@ impl Board {
     // Calls 13 to 17, past the checks.
     fn pin_event(mut self, e: Event) -> Outcome
         requires { ⌜ e .member < 48 ⌝ }
-        ensures { λ r. ⌜ r ≡ outcome (acceptedBy stay pin self e) ⌝ }
+        ensures { λ r. ⌜ r ≡ outcome (passedBy Class.OnPin self e) ⌝ }
     {
-        let m = e.member as u64;
         let pins = self.pins;
-        let r = calls::pin_call(self.core.safety.writes, e, pins.at(m));
-        let next = r.pin;
+        let r = calls::pins_call(self.core.safety.writes, e, pins);
+        let next = r.pins;
         let answer = r.answer;
-        self.pins = pins.put(m, next);
+        self.pins = next;
         Outcome {
             board: self,
             answer: answer,
@@ -64,14 +64,13 @@ impl Board {
     // Calls 18 to 21, past the checks.
     fn virtual_event(mut self, e: Event) -> Outcome
         requires { ⌜ e .member < 6 ⌝ }
-        ensures { λ r. ⌜ r ≡ outcome (acceptedBy stay virtual self e) ⌝ }
+        ensures { λ r. ⌜ r ≡ outcome (passedBy Class.OnVirtual self e) ⌝ }
     {
-        let m = e.member as u64;
         let outputs = self.virtuals;
-        let r = calls::virtual_call(self.core.safety.writes, e, outputs.at(m));
-        let next = r.output;
+        let r = calls::virtuals_call(self.core.safety.writes, e, outputs);
+        let next = r.outputs;
         let answer = r.answer;
-        self.virtuals = outputs.put(m, next);
+        self.virtuals = next;
         Outcome {
             board: self,
             answer: answer,
@@ -80,7 +79,7 @@ impl Board {
 
     // Calls 22 to 29, past the checks.
     fn board_event(mut self, e: Event) -> Outcome
-        ensures { λ r. ⌜ r ≡ outcome (acceptedBy stay board self e) ⌝ }
+        ensures { λ r. ⌜ r ≡ outcome (passedBy Class.OnBoard self e) ⌝ }
     {
         let core = self.core;
         let r = calls::board_call(e, core);
@@ -93,63 +92,62 @@ impl Board {
         }
     }
 
-    // Every event but a step that is accepted, which is answered with 0 and no step here.
-    pub fn call(self, e: Event) -> Outcome
-        ensures { λ r. ⌜ r ≡ outcome (respondWith stay self e) ⌝ }
+    // Every event but an accepted step.
+    pub(crate) fn call(self, e: Event) -> Outcome
+        ensures { λ r. ⌜ r ≡ outcome (called self e) ⌝ }
     {
-        let result = refusal(e);
+        let class = class_of(e.kind);
+        let result = refusal(class, e);
         if result != 0 {
             return self.refuse(result);
         }
-        let kind = e.kind;
-        match kind {
-            0 => self.refuse(0),
-            1..=12 => self.channel_event(e),
-            13..=17 => self.pin_event(e),
-            18..=21 => self.virtual_event(e),
+        match class {
+            Class::OnChannel => self.channel_event(e),
+            Class::OnPin => self.pin_event(e),
+            Class::OnVirtual => self.virtual_event(e),
             _ => self.board_event(e),
         }
     }
-
-    // The answer of an event and the next board, on a board whose fields are in their ranges.
-    pub fn respond(self, e: Event) -> Outcome
-        ensures { λ r. ⌜ r ≡ outcome (respond self e) ⌝ }
-    {
-        if calls::is_step(e) {
-            return Outcome {
-                board: self.step(e.v, e.w),
-                answer: calls::number(0, 0),
-            };
-        }
-        self.call(e)
-    }
 }
 
-// 3 where a field does not fit, else 0.
-fn unfit(e: Event) -> u32
-    ensures { λ r. ⌜ r ≡ refusalBy step e ⌝ }
+// The class of a kind.
+pub fn class_of(kind: u8) -> Class
+    ensures { λ r. ⌜ r ≡ classOf kind ⌝ }
 {
-    if calls::fits(e) { 0 } else { 3 }
+    match kind {
+        0 => Class::Step,
+        1..=12 => Class::OnChannel,
+        13..=17 => Class::OnPin,
+        18..=21 => Class::OnVirtual,
+        22..=29 => Class::OnBoard,
+        _ => Class::Unknown,
+    }
 }
 
 // 1 where the member is not one of n, 3 where a field does not fit, else 0.
 fn refusal_in(n: u8, e: Event) -> u32
     ensures { λ r. ⌜ r ≡ refusalIn n e ⌝ }
 {
-    if e.member < n { unfit(e) } else { 1 }
+    if e.member < n {
+        if calls::fits(e) {
+            return 0;
+        }
+        return 3;
+    }
+    1
 }
 
-// The result of the checks on kind, member and fields: 2, 1, 3, or 0 where they find nothing.
-pub fn refusal(e: Event) -> u32
-    ensures { λ r. ⌜ r ≡ refusal e ⌝ }
+// What the checks on kind, member and fields find of an event that is no accepted step: 2, 1, 3, or
+// 0 for nothing. A step is here because its fields did not fit.
+pub fn refusal(class: Class, e: Event) -> u32
+    ensures { λ r. ⌜ r ≡ refusalBy class e ⌝ }
 {
-    let kind = e.kind;
-    match kind {
-        0 => unfit(e),
-        1..=12 => refusal_in(CHANNEL_MEMBERS, e),
-        13..=17 => refusal_in(PIN_MEMBERS, e),
-        18..=21 => refusal_in(VIRTUAL_MEMBERS, e),
-        22..=29 => refusal_in(BOARD_MEMBERS, e),
-        _ => 2,
+    match class {
+        Class::Step => 3,
+        Class::OnChannel => refusal_in(CHANNEL_MEMBERS, e),
+        Class::OnPin => refusal_in(PIN_MEMBERS, e),
+        Class::OnVirtual => refusal_in(VIRTUAL_MEMBERS, e),
+        Class::OnBoard => refusal_in(BOARD_MEMBERS, e),
+        Class::Unknown => 2,
     }
 }

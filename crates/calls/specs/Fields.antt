@@ -1,4 +1,4 @@
--- Document 01, "Results above 0", result 3: the field checks of each kind.
+-- Document 01, "Results above 0", result 3: the field checks of a step and of each call.
 -- Assumes nothing.
 use mathlib.Core.Bool.{Bool, not, cond, _&&_, _||_}
 use mathlib.Core.List.{List, [], _∷_}
@@ -8,11 +8,24 @@ use lib.ListN.{getD}
 use Rattle.counter.specs.Mode.{goodMode}
 use Rattle.calls.specs.declared.Event.{Event}
 
+-- ---- a step
+
+-- member, selector and spare 0, V the three lines of six channels, W the levels of 48 pins
+unfoldable pub stepFits : Event → Bool
+stepFits e =
+    eqb (e .member) 0 && eqb (e .selector) 0 && eqb (e .spare) 0 && ltb (e .v) (2 ^ 18) && ltb (e .w) (2 ^ 48)
+
+-- a step that is accepted
+abbrev pub isStep : Event → Bool
+isStep e = eqb (e .kind) 0 && stepFits e
+
+-- ---- a call
+
 -- V is below this, kind by kind: 2^32 where every V is taken, 1 where V is unused
 unfoldable pub limits : List ℕ
 limits =
-    -- 0 step, 1 mode write, 2 preload write, 3 compare write, 4 route, 5 mask
-    2 ^ 18 ∷ 2 ^ 28 ∷ 2 ^ 32 ∷ 2 ^ 32 ∷ 55 ∷ 512
+    -- 0 is no call, 1 mode write, 2 preload write, 3 compare write, 4 route, 5 mask
+    0 ∷ 2 ^ 28 ∷ 2 ^ 32 ∷ 2 ^ 32 ∷ 55 ∷ 512
     -- 6 start, 7 halt, 8 soft snapshot, 9 soft preload, 10 count read, 11 snapshot read, 12 status
     ∷ 1 ∷ 1 ∷ 1 ∷ 1 ∷ 1 ∷ 1 ∷ 1
     -- 13 source, 14 data, 15 safe data, 16 safe enable, 17 read
@@ -26,18 +39,13 @@ limits =
 unfoldable pub limit : ℕ → ℕ
 limit k = getD limits k 0
 
--- every field is as its kind wants it: the spare 0; the selector 0, or 0 or 1 with calls 2 and 3; W 0, or 48 bits in a step; V below its
--- limit, a good mode word with call 1, not 0 with call 25; the member of a step 0
+-- every field is as the call wants it: the spare and W 0; the selector 0, or 0 or 1 with calls 2 and 3; V below its limit, a good mode word
+-- with call 1, not 0 with call 25
 unfoldable pub fits : Event → Bool
 fits e =
     eqb (e .spare) 0
     && ltb (e .selector) (cond (eqb (e .kind) 2 || eqb (e .kind) 3) 2 1)
-    && ltb (e .w) (cond (eqb (e .kind) 0) (2 ^ 48) 1)
+    && eqb (e .w) 0
     && ltb (e .v) (limit (e .kind))
     && (not (eqb (e .kind) 1) || goodMode (e .v))
     && (not (eqb (e .kind) 25) || not (eqb (e .v) 0))
-    && (not (eqb (e .kind) 0) || eqb (e .member) 0)
-
--- a step that is accepted
-abbrev pub isStep : Event → Bool
-isStep e = eqb (e .kind) 0 && fits e

@@ -4,8 +4,10 @@ use mathlib.Core.Bool.{Bool, cond}
 use Prim.Native.Nat.{ℕ}
 use lib.Dec.{eqb}
 use Rattle.words.specs.Bits.{flag}
+use Rattle.ports.specs.Pins.{pinAt, putPin}
 use Rattle.ports.specs.declared.Pin.{Pin}
-use Rattle.calls.specs.Reply.{Reply, accept, tell}
+use Rattle.ports.specs.declared.Pins.{Pins}
+use Rattle.calls.specs.Reply.{Reply, reply, accept, tell}
 use Rattle.calls.specs.declared.Event.{Event}
 
 abbrev pub withSource : ℕ → Pin → Pin
@@ -33,3 +35,9 @@ pinCall writes e p =
     (cond (eqb k 15) (accept (cond writes (withSafeData (eqb (e .v) 1) p) p))
     (cond (eqb k 16) (accept (cond writes (withSafeEnable (eqb (e .v) 1) p) p))
     (tell (flag (p .level)) p))))
+
+-- on the pin that the event names, put back in its place
+abbrev pub pinsCall : Bool → Event → Pins → Reply Pins
+pinsCall writes e x =
+    let r : Reply Pin = pinCall writes e (pinAt x (e .member)) in
+    reply (putPin (e .member) (r .state) x) (r .answer)

@@ -3,12 +3,16 @@
 use Prim.Native.Nat.{ℕ}
 use Rattle.counter.specs.declared.Channel.{Channel}
 use Rattle.ports.specs.declared.Pin.{Pin}
+use Rattle.ports.specs.declared.Pins.{Pins}
 use Rattle.ports.specs.declared.Virtual.{Virtual}
+use Rattle.ports.specs.declared.Virtuals.{Virtuals}
 use Rattle.control.specs.declared.Core.{Core}
 use Rattle.calls.specs.declared.Answer.{Answer}
 use Rattle.calls.specs.declared.ChannelReply.{ChannelReply}
 use Rattle.calls.specs.declared.PinReply.{PinReply}
+use Rattle.calls.specs.declared.PinsReply.{PinsReply}
 use Rattle.calls.specs.declared.VirtualReply.{VirtualReply}
+use Rattle.calls.specs.declared.VirtualsReply.{VirtualsReply}
 use Rattle.calls.specs.declared.CoreReply.{CoreReply}
 
 -- the next record, and the answer
@@ -40,8 +44,14 @@ channelReply r = record { channel = r .state; answer = r .answer }
 abbrev pub pinReply : Reply Pin → PinReply
 pinReply r = record { pin = r .state; answer = r .answer }
 
+abbrev pub pinsReply : Reply Pins → PinsReply
+pinsReply r = record { pins = r .state; answer = r .answer }
+
 abbrev pub virtualReply : Reply Virtual → VirtualReply
 virtualReply r = record { output = r .state; answer = r .answer }
+
+abbrev pub virtualsReply : Reply Virtuals → VirtualsReply
+virtualsReply r = record { outputs = r .state; answer = r .answer }
 
 abbrev pub coreReply : Reply Core → CoreReply
 coreReply r = record { core = r .state; answer = r .answer }

@@ -4,8 +4,10 @@ use mathlib.Core.Bool.{Bool, cond}
 use Prim.Native.Nat.{ℕ}
 use lib.Dec.{eqb}
 use Rattle.words.specs.Bits.{flag}
+use Rattle.ports.specs.Virtuals.{virtualAt, putVirtual}
 use Rattle.ports.specs.declared.Virtual.{Virtual}
-use Rattle.calls.specs.Reply.{Reply, accept, tell}
+use Rattle.ports.specs.declared.Virtuals.{Virtuals}
+use Rattle.calls.specs.Reply.{Reply, reply, accept, tell}
 use Rattle.calls.specs.declared.Event.{Event}
 
 abbrev pub withOwn : Bool → Virtual → Virtual
@@ -25,3 +27,9 @@ virtualCall writes e o =
     (cond (eqb k 19) (accept (cond writes (withSafeData (eqb (e .v) 1) o) o))
     (cond (eqb k 20) (accept (cond writes (withSafeEnable (eqb (e .v) 1) o) o))
     (tell (flag (o .own)) o)))
+
+-- on the output that the event names, put back in its place
+abbrev pub virtualsCall : Bool → Event → Virtuals → Reply Virtuals
+virtualsCall writes e x =
+    let r : Reply Virtual = virtualCall writes e (virtualAt x (e .member)) in
+    reply (putVirtual (e .member) (r .state) x) (r .answer)

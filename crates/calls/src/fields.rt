@@ -1,7 +1,7 @@
-// Result 3: the field checks of each kind.
+// Result 3: the field checks of a step and of each call.
 ghost use mathlib.Core.Path.{_≡_};
 ghost use mathlib.Core.Bool.{cond};
-ghost use Rattle.calls.specs.Fields.{limit, fits, isStep};
+ghost use Rattle.calls.specs.Fields.{stepFits, isStep, limit, fits};
 use crate::Event;
 
 // The kinds, 0 to 29.
@@ -15,7 +15,7 @@ const ANY: u64 = 1 << 32;
 
 // V is below this, kind by kind: 2 for one bit, 1 where V is unused.
 const LIMITS: [u64; KINDS as usize] = [
-    LINES as u64, // 0 step
+    0, // 0 is no call
     counter::mode::WORDS as u64, // 1 mode write
     ANY, // 2 preload write
     ANY, // 3 compare write
@@ -62,31 +62,31 @@ fn pick(b: bool, x: u64, y: u64) -> u64
     if b { x } else { y }
 }
 
-// Every field of the event is as its kind wants it.
+// Every field of a call is as its kind wants it.
 pub fn fits(e: Event) -> bool
     ensures { λ r. ⌜ r ≡ fits e ⌝ }
 {
     let selectors = pick((e.kind == 2) | (e.kind == 3), 2, 1);
-    let levels = pick(e.kind == 0, words::WORDS, 1);
     let most = limit(e.kind);
     let good = counter::mode::is_good(e.v);
     (e.spare == 0)
         & ((e.selector as u64) < selectors)
-        & (e.w < levels)
+        & (e.w == 0)
         & ((e.v as u64) < most)
         & (!(e.kind == 1) | good)
         & (!(e.kind == 25) | !(e.v == 0))
-        & (!(e.kind == 0) | (e.member == 0))
 }
 
-// A step that is accepted: its fields are as a step wants them.
+// Every field of a step is as it wants it.
+fn step_fits(e: Event) -> bool
+    ensures { λ r. ⌜ r ≡ stepFits e ⌝ }
+{
+    (e.member == 0) & (e.selector == 0) & (e.spare == 0) & (e.v < LINES) & (e.w < words::WORDS)
+}
+
+// A step that is accepted.
 pub fn is_step(e: Event) -> bool
     ensures { λ r. ⌜ r ≡ isStep e ⌝ }
 {
-    (e.kind == 0)
-        & ((e.spare == 0)
-            & (e.selector < 1)
-            & (e.w < words::WORDS)
-            & (e.v < LINES)
-            & (e.member == 0))
+    (e.kind == 0) & step_fits(e)
 }

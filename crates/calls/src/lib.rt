@@ -18,10 +18,12 @@ pub use fields::KINDS;
 pub use fields::LINES;
 pub use fields::fits;
 pub use fields::is_step;
-pub use pin_calls::pin_call;
+pub use pin_calls::pins_call;
 use ports::Pin;
+use ports::Pins;
 use ports::Virtual;
-pub use virtual_calls::virtual_call;
+use ports::Virtuals;
+pub use virtual_calls::virtuals_call;
 
 #[repr(C)]
 pub struct Event {
@@ -52,8 +54,19 @@ pub struct PinReply {
     pub answer: Answer,
 }
 
+// All pins, with that of the call in its place.
+pub struct PinsReply {
+    pub pins: Pins,
+    pub answer: Answer,
+}
+
 pub struct VirtualReply {
     pub output: Virtual,
+    pub answer: Answer,
+}
+
+pub struct VirtualsReply {
+    pub outputs: Virtuals,
     pub answer: Answer,
 }
 

@@ -1,12 +1,15 @@
-// Calls 13 to 17, on the pin's own record.
+// Calls 13 to 17, on the pin's own record and on it among all pins.
 ghost use mathlib.Core.Path.{_≡_};
 ghost use mathlib.Core.Bool.{cond};
+ghost use Prim.Native.Nat.{_<_};
 ghost use Rattle.words.specs.Bits.{flag};
-ghost use Rattle.calls.specs.Reply.{pinReply, accept, tell};
-ghost use Rattle.calls.specs.PinCalls.{withSource, withOwn, withSafeData, withSafeEnable, pinCall};
+ghost use Rattle.calls.specs.Reply.{pinReply, pinsReply, accept, tell};
+ghost use Rattle.calls.specs.PinCalls.{withSource, withOwn, withSafeData, withSafeEnable, pinCall, pinsCall};
 use crate::Event;
 use crate::PinReply;
+use crate::PinsReply;
 use ports::Pin;
+use ports::Pins;
 
 // The call is accepted, and the pin is now this one.
 fn accept(p: Pin) -> PinReply
@@ -71,7 +74,7 @@ fn level_read(p: Pin) -> PinReply
 }
 
 // The call of an event on its pin; `writes` is SWE.
-pub fn pin_call(writes: bool, e: Event, p: Pin) -> PinReply
+fn pin_call(writes: bool, e: Event, p: Pin) -> PinReply
     ensures { λ r. ⌜ r ≡ pinReply (pinCall writes e p) ⌝ }
 {
     let kind = e.kind;
@@ -81,5 +84,20 @@ pub fn pin_call(writes: bool, e: Event, p: Pin) -> PinReply
         15 => safe_data_write(p, writes, e.v == 1),
         16 => safe_enable_write(p, writes, e.v == 1),
         _ => level_read(p),
+    }
+}
+
+// The call of an event on the pin that it names, put back among all pins.
+pub fn pins_call(writes: bool, e: Event, pins: Pins) -> PinsReply
+    requires { ⌜ e .member < 48 ⌝ }
+    ensures { λ r. ⌜ r ≡ pinsReply (pinsCall writes e pins) ⌝ }
+{
+    let m = e.member as u64;
+    let r = pin_call(writes, e, pins.at(m));
+    let pin = r.pin;
+    let answer = r.answer;
+    PinsReply {
+        pins: pins.put(m, pin),
+        answer: answer,
     }
 }

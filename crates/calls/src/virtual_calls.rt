@@ -1,12 +1,15 @@
-// Calls 18 to 21, on the virtual output's own record.
+// Calls 18 to 21, on the virtual output's own record and on it among all outputs.
 ghost use mathlib.Core.Path.{_≡_};
 ghost use mathlib.Core.Bool.{cond};
+ghost use Prim.Native.Nat.{_<_};
 ghost use Rattle.words.specs.Bits.{flag};
-ghost use Rattle.calls.specs.Reply.{virtualReply, accept, tell};
-ghost use Rattle.calls.specs.VirtualCalls.{withOwn, withSafeData, withSafeEnable, virtualCall};
+ghost use Rattle.calls.specs.Reply.{virtualReply, virtualsReply, accept, tell};
+ghost use Rattle.calls.specs.VirtualCalls.{withOwn, withSafeData, withSafeEnable, virtualCall, virtualsCall};
 use crate::Event;
 use crate::VirtualReply;
+use crate::VirtualsReply;
 use ports::Virtual;
+use ports::Virtuals;
 
 // The call is accepted, and the output is now this one.
 fn accept(o: Virtual) -> VirtualReply
@@ -62,7 +65,7 @@ fn data_read(o: Virtual) -> VirtualReply
 }
 
 // The call of an event on its virtual output; `writes` is SWE.
-pub fn virtual_call(writes: bool, e: Event, o: Virtual) -> VirtualReply
+fn virtual_call(writes: bool, e: Event, o: Virtual) -> VirtualReply
     ensures { λ r. ⌜ r ≡ virtualReply (virtualCall writes e o) ⌝ }
 {
     let kind = e.kind;
@@ -71,5 +74,20 @@ pub fn virtual_call(writes: bool, e: Event, o: Virtual) -> VirtualReply
         19 => safe_data_write(o, writes, e.v == 1),
         20 => safe_enable_write(o, writes, e.v == 1),
         _ => data_read(o),
+    }
+}
+
+// The call of an event on the output that it names, put back among all outputs.
+pub fn virtuals_call(writes: bool, e: Event, outputs: Virtuals) -> VirtualsReply
+    requires { ⌜ e .member < 6 ⌝ }
+    ensures { λ r. ⌜ r ≡ virtualsReply (virtualsCall writes e outputs) ⌝ }
+{
+    let m = e.member as u64;
+    let r = virtual_call(writes, e, outputs.at(m));
+    let output = r.output;
+    let answer = r.answer;
+    VirtualsReply {
+        outputs: outputs.put(m, output),
+        answer: answer,
     }
 }

@@ -2,9 +2,9 @@
 -- Assumes nothing.
 use mathlib.Core.Bool.{Bool, cond}
 use Prim.Native.Nat.{ℕ, _+_, _/_, _%_, _^_}
-use lib.Dec.{eqb}
+use lib.Dec.{eqb, ltb}
 use Rattle.words.specs.Bits.{word}
-use Rattle.words.specs.Range.{below}
+use Rattle.words.specs.Range.{orReset}
 use Rattle.control.specs.declared.Clock.{Clock}
 
 -- the prescaler of the next step
@@ -27,6 +27,12 @@ tick p x = eqb (p % (500_000_000 / 10 ^ x)) 0
 unfoldable pub ticks : ℕ → ℕ
 ticks p = word 8 (tick p)
 
--- a clock handed in
+abbrev pub resetClock : Clock
+resetClock = record { prescaler = 0; timestamp = 0 }
+
+-- the prescaler's range, and a clock handed in
+abbrev pub isPrescaler : ℕ → Bool
+isPrescaler p = ltb p 500_000_000
+
 unfoldable pub repairedClock : Clock → Clock
-repairedClock k = record { prescaler = below 500_000_000 0 (k .prescaler); timestamp = k .timestamp }
+repairedClock k = record { prescaler = orReset isPrescaler (resetClock .prescaler) (k .prescaler); timestamp = k .timestamp }

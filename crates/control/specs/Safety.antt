@@ -1,10 +1,10 @@
 -- Document 01, "The step", part 4: safemode and what sets it.
 -- Assumes nothing.
-use mathlib.Core.Bool.{Bool, _&&_, _||_, Bool·beq}
+use mathlib.Core.Bool.{Bool, false, _&&_, _||_, Bool·beq}
 use Prim.Native.Nat.{ℕ, _%_}
-use lib.Dec.{eqb}
+use lib.Dec.{eqb, ltb}
 use Rattle.words.specs.Bits.{bitAt}
-use Rattle.words.specs.Range.{below}
+use Rattle.words.specs.Range.{orReset}
 use Rattle.control.specs.declared.Safety.{Safety}
 
 -- control bits: 0 pin 47 triggers, 1 its active level, 2 the watchdog triggers
@@ -33,6 +33,12 @@ guarded expired pin47 s =
     (s .safemode || (watchdogTriggers (s .control) && expired) || (pinTriggers (s .control) && Bool·beq pin47 (activeLevel (s .control))))
     s
 
--- safety handed in
+abbrev pub resetSafety : Safety
+resetSafety = record { control = 0; writes = false; safemode = false }
+
+-- the range of the control bits, and safety handed in
+abbrev pub isControl : ℕ → Bool
+isControl n = ltb n 8
+
 unfoldable pub repairedSafety : Safety → Safety
-repairedSafety s = withControl (below 8 0 (s .control)) s
+repairedSafety s = withControl (orReset isControl (resetSafety .control) (s .control)) s

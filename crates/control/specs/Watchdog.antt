@@ -3,6 +3,7 @@
 use mathlib.Core.Bool.{Bool, true, false, cond, _&&_, _||_}
 use Prim.Native.Nat.{ℕ, _-_}
 use lib.Dec.{eqb, ltb}
+use Rattle.words.specs.Range.{orReset}
 use Rattle.control.specs.declared.Watchdog.{Watchdog}
 
 -- an enabled watchdog with a rest above 0 lowers it by 1; reaching 0 marks it expired
@@ -27,6 +28,12 @@ unfoldable pub switched : Bool → Watchdog → Watchdog
 switched true d = cond (d .enabled) d (kicked (withEnabled true d))
 switched false d = withEnabled false d
 
--- a watchdog handed in
+abbrev pub resetWatchdog : Watchdog
+resetWatchdog = record { interval = 50_000_000; rest = 0; enabled = false; expired = false }
+
+-- the interval's range, and a watchdog handed in
+abbrev pub isInterval : ℕ → Bool
+isInterval n = ltb 0 n
+
 unfoldable pub repairedWatchdog : Watchdog → Watchdog
-repairedWatchdog d = withInterval (cond (ltb 0 (d .interval)) (d .interval) 50_000_000) d
+repairedWatchdog d = withInterval (orReset isInterval (resetWatchdog .interval) (d .interval)) d

@@ -1,10 +1,9 @@
 // The board's own part: the clock with its ticks, the watchdog, and safemode with what sets it.
 ghost use mathlib.Core.Path.{_≡_};
-ghost use mathlib.Core.Bool.{true};
 ghost use Rattle.control.specs.Clock.{prescalerNext, risesAt, advanced, ticks, repairedClock};
 ghost use Rattle.control.specs.Watchdog.{watched, kicked, switched, repairedWatchdog};
 ghost use Rattle.control.specs.Safety.{pinTriggers, activeLevel, watchdogTriggers, guarded, repairedSafety};
-ghost use Rattle.control.specs.Whole.{repairedCore, resetCore};
+ghost use Rattle.control.specs.Whole.{coreInRange, repairedCore, resetCore};
 
 // The steps of the prescaler's round, 10 seconds.
 const PRESCALE: u32 = 500_000_000;
@@ -202,14 +201,14 @@ impl Safety {
 }
 
 impl Core {
-    // Every field is in its range, so that the repair changes nothing.
+    // Every field is in its range.
     pub fn is_sound(self) -> bool
-        ensures { λ r. ⌜ (r ≡ true → repairedCore self ≡ self) ⌝ }
+        ensures { λ r. ⌜ r ≡ coreInRange self ⌝ }
     {
         let clock = self.clock;
         let watchdog = self.watchdog;
         let safety = self.safety;
-        (clock.prescaler < PRESCALE) & (watchdog.interval != 0) & (safety.control < CONTROLS)
+        (clock.prescaler < PRESCALE) & (0 < watchdog.interval) & (safety.control < CONTROLS)
     }
 
     // The board's own part handed in.

@@ -1,46 +1,76 @@
--- The repair leaves a channel in range alone.
+-- A channel in range, field by field. The repair leaves such a channel alone, and makes one.
 -- Assumes nothing.
-use mathlib.Core.Path.{_≡_}
-use mathlib.Core.Bool.{true, not, _||_}
+use mathlib.Core.Path.{_≡_, refl}
+use mathlib.Core.Bool.{true, and-eq-true-iff}
 use mathlib.Core.List.{List}
 use Prim.Native.Nat.{ℕ, _<_}
-use lib.Dec.{ltb}
 use lib.ListN.{length, getD}
-use lib.Signed.{ltZ}
-use lib.IntN.{ℤ, pos, negsuc}
-use borrow.Author.Tests.{not-true, lt-ltb}
-use Rattle.words.proofs.Tables.{tab-same}
+use borrow.Author.Tests.{eqb-true, eq-eqb}
 use Rattle.words.proofs.Cases.{taken}
+use Rattle.words.proofs.Every.{every-at, every-by, reset-good}
+use Rattle.words.proofs.Tables.{tab-same, length-tab, getD-tab}
 use Rattle.counter.specs.Mode.{goodMode}
-use Rattle.counter.specs.Repair.{inCarry, inReasons, repaired}
+use Rattle.counter.specs.Repair.{resetChannel, isRoute, isReasons, isKept, isCarry, isHeld, areReasons, channelInRange, inReasons, repaired}
 use Rattle.counter.specs.declared.Channel.{Channel}
 
-pub reasons-same : (a : List ℕ) → length a ≡ 16 → ((i : ℕ) → i < 16 → getD a i 0 < 512) → inReasons a ≡ a
+pub record ChannelInRange (c : Channel) : Type 0 where
+  pub mode : goodMode (c .mode) ≡ true
+  pub route : isRoute (c .route) ≡ true
+  pub mask : isReasons (c .mask) ≡ true
+  pub kept : isKept (c .kept) ≡ true
+  pub held : isHeld (c .held) ≡ true
+  pub carry : isCarry (c .carry) ≡ true
+  pub places : length (c .reasons) ≡ 16
+  pub reasons : (i : ℕ) → i < 16 → isReasons (getD (c .reasons) i 0) ≡ true
+
+module _ (c : Channel) where
+  pub channel-fields : channelInRange c ≡ true → ChannelInRange c
+  unfolding channelInRange areReasons
+  channel-fields h =
+      let h₆ = and-eq-true-iff _ _ .0 h in
+      let h₅ = and-eq-true-iff _ _ .0 (h₆ .0) in
+      let h₄ = and-eq-true-iff _ _ .0 (h₅ .0) in
+      let h₃ = and-eq-true-iff _ _ .0 (h₄ .0) in
+      let h₂ = and-eq-true-iff _ _ .0 (h₃ .0) in
+      let h₁ = and-eq-true-iff _ _ .0 (h₂ .0) in
+      let l = and-eq-true-iff _ _ .0 (h₆ .1) in
+      record {
+        mode = h₁ .0;
+        route = h₁ .1;
+        mask = h₂ .1;
+        kept = h₃ .1;
+        held = h₄ .1;
+        carry = h₅ .1;
+        places = eqb-true _ 16 (l .0);
+        reasons = every-at 16 _ (l .1);
+      }
+
+  pub channel-whole : ChannelInRange c → channelInRange c ≡ true
+  unfolding channelInRange areReasons
+  channel-whole r =
+      rw (r .mode, r .route, r .mask, r .kept, r .held, r .carry, eq-eqb (length (c .reasons)) 16 (r .places)) (every-by 16 _ (r .reasons))
+
+  reasons-same : ChannelInRange c → inReasons (c .reasons) ≡ c .reasons
+  unfolding inReasons
+  reasons-same r = tab-same 16 _ (c .reasons) 0 (r .places) (λ i k. taken (getD (c .reasons) i 0) 0 (r .reasons i k))
+
+  pub channel-same : channelInRange c ≡ true → repaired c ≡ c
+  unfolding repaired
+  channel-same h = let r = channel-fields h in rw (r .mode, r .route, r .mask, r .kept, r .held, r .carry, reasons-same r)
+
+reasons-repaired : (l : List ℕ) (i : ℕ) → i < 16 → isReasons (getD (inReasons l) i 0) ≡ true
 unfolding inReasons
-reasons-same a s h = tab-same 16 _ a 0 s (λ i k. taken (getD a i 0) 0 (lt-ltb _ _ (h i k)))
+reasons-repaired l i k = rw getD-tab (reset-good isReasons 0 refl (getD l i 0))
 
-pub carry-same : (d : ℤ) → not (ltZ d (negsuc 0) || ltZ (pos 1) d) ≡ true → inCarry d ≡ d
-carry-same d h = rw (not-true (ltZ d (negsuc 0) || ltZ (pos 1) d) h)
-
-pub channel-same : (c : Channel) → goodMode (c .mode) ≡ true → ltb (c .route) 55 ≡ true → ltb (c .mask) 512 ≡ true → ltb (c .kept) 16 ≡ true → ltb (c .held) 17 ≡ true
-    → inCarry (c .carry) ≡ c .carry → inReasons (c .reasons) ≡ c .reasons → repaired c ≡ c
-unfolding repaired
-channel-same c mode route mask kept held carry reasons = λ i. record {
-  mode = taken (c .mode) 0 mode i;
-  preloads = c .preloads;
-  compares = c .compares;
-  route = taken (c .route) 54 route i;
-  mask = taken (c .mask) 0 mask i;
-  count = c .count;
-  running = c .running;
-  armed = c .armed;
-  second = c .second;
-  kept = taken (c .kept) 0 kept i;
-  extout = c .extout;
-  carry = carry i;
-  counts = c .counts;
-  timestamps = c .timestamps;
-  reasons = reasons i;
-  held = taken (c .held) 0 held i;
-  lost = c .lost;
-}
+pub channel-repaired : (c : Channel) → channelInRange (repaired c) ≡ true
+unfolding repaired resetChannel inReasons
+channel-repaired c = channel-whole (repaired c) (record {
+  mode = reset-good goodMode 0 refl (c .mode);
+  route = reset-good isRoute 54 refl (c .route);
+  mask = reset-good isReasons 0 refl (c .mask);
+  kept = reset-good isKept 0 refl (c .kept);
+  held = reset-good isHeld 0 refl (c .held);
+  carry = reset-good isCarry _ refl (c .carry);
+  places = length-tab 16 _;
+  reasons = reasons-repaired (c .reasons);
+})

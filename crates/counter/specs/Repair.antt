@@ -1,45 +1,17 @@
 -- Document 01, "In a board handed in": the range of each field of a channel, and the value that counts outside it.
 -- Assumes nothing.
-use mathlib.Core.Bool.{false, cond, _||_}
+use mathlib.Core.Bool.{Bool, false, not, _&&_, _||_}
 use mathlib.Core.List.{List, []}
 use Prim.Native.Nat.{ℕ}
-use lib.ListN.{getD, replicate}
+use lib.Dec.{eqb, ltb}
+use lib.ListN.{length, getD, replicate}
 use lib.Signed.{ltZ}
 use lib.IntN.{ℤ, pos, negsuc}
-use Rattle.words.specs.Range.{below}
+use Rattle.words.specs.Bits.{every}
+use Rattle.words.specs.Range.{orReset}
 use Rattle.words.specs.Table.{tab}
 use Rattle.counter.specs.Mode.{goodMode}
 use Rattle.counter.specs.declared.Channel.{Channel}
-
--- a carry is −1, 0 or +1
-abbrev pub inCarry : ℤ → ℤ
-inCarry d = cond (ltZ d (negsuc 0) || ltZ (pos 1) d) (pos 0) d
-
--- reasons are below 512, in every place of the queue
-unfoldable pub inReasons : List ℕ → List ℕ
-inReasons l = tab 16 (λ i. below 512 0 (getD l i 0))
-
-unfoldable pub repaired : Channel → Channel
-repaired c =
-    record {
-      mode = cond (goodMode (c .mode)) (c .mode) 0;
-      preloads = c .preloads;
-      compares = c .compares;
-      route = below 55 54 (c .route);
-      mask = below 512 0 (c .mask);
-      count = c .count;
-      running = c .running;
-      armed = c .armed;
-      second = c .second;
-      kept = below 16 0 (c .kept);
-      extout = c .extout;
-      carry = inCarry (c .carry);
-      counts = c .counts;
-      timestamps = c .timestamps;
-      reasons = inReasons (c .reasons);
-      held = below 17 0 (c .held);
-      lost = c .lost;
-    }
 
 -- a channel at reset: all 0, the route 54
 unfoldable pub resetChannel : Channel
@@ -62,6 +34,68 @@ resetChannel =
       reasons = replicate 16 0;
       held = 0;
       lost = 0;
+    }
+
+-- a route names a pin, a virtual output or none
+abbrev pub isRoute : ℕ → Bool
+isRoute n = ltb n 55
+
+-- a mask, or the reasons of a capture, a bit for each of nine
+abbrev pub isReasons : ℕ → Bool
+isReasons n = ltb n 512
+
+-- A + 2 B + 4 index + 8 ExtIn
+abbrev pub isKept : ℕ → Bool
+isKept n = ltb n 16
+
+-- a carry is −1, 0 or +1
+abbrev pub isCarry : ℤ → Bool
+isCarry d = not (ltZ d (negsuc 0) || ltZ (pos 1) d)
+
+-- the length of a queue
+abbrev pub isHeld : ℕ → Bool
+isHeld n = ltb n 17
+
+-- reasons in all sixteen places of the queue
+unfoldable pub areReasons : List ℕ → Bool
+areReasons l = eqb (length l) 16 && every 16 (λ i. isReasons (getD l i 0))
+
+-- every field is in its range
+unfoldable pub channelInRange : Channel → Bool
+channelInRange c =
+    goodMode (c .mode)
+    && isRoute (c .route)
+    && isReasons (c .mask)
+    && isKept (c .kept)
+    && isHeld (c .held)
+    && isCarry (c .carry)
+    && areReasons (c .reasons)
+
+-- each place of the queue by itself
+unfoldable pub inReasons : List ℕ → List ℕ
+inReasons l = tab 16 (λ i. orReset isReasons 0 (getD l i 0))
+
+-- a channel handed in
+unfoldable pub repaired : Channel → Channel
+repaired c =
+    record {
+      mode = orReset goodMode (resetChannel .mode) (c .mode);
+      preloads = c .preloads;
+      compares = c .compares;
+      route = orReset isRoute (resetChannel .route) (c .route);
+      mask = orReset isReasons (resetChannel .mask) (c .mask);
+      count = c .count;
+      running = c .running;
+      armed = c .armed;
+      second = c .second;
+      kept = orReset isKept (resetChannel .kept) (c .kept);
+      extout = c .extout;
+      carry = orReset isCarry (resetChannel .carry) (c .carry);
+      counts = c .counts;
+      timestamps = c .timestamps;
+      reasons = inReasons (c .reasons);
+      held = orReset isHeld (resetChannel .held) (c .held);
+      lost = c .lost;
     }
 
 -- what an index outside the six channels would give; no step or call has one

@@ -1,12 +1,13 @@
 // The difference that a step adds to the count: -1, 0 or +1.
 ghost use mathlib.Core.Path.{_≡_};
-ghost use mathlib.Core.Bool.{cond, true, false};
+ghost use mathlib.Core.Bool.{cond, false};
 ghost use Prim.Native.Nat.{_≤_};
 ghost use lib.Signed.{mag};
 ghost use lib.IntN.{pos};
+ghost use Rattle.words.specs.Range.{orReset};
 ghost use Rattle.counter.specs.Quadrature.{quadrature, bothChanged, transition, keeps};
 ghost use Rattle.counter.specs.Difference.{sign, unit, turn, turned, reversed, moved, carryOf};
-ghost use Rattle.counter.specs.Repair.{inCarry};
+ghost use Rattle.counter.specs.Repair.{isCarry};
 use crate::Turn;
 use crate::samples::line_a;
 use crate::samples::line_b;
@@ -139,16 +140,16 @@ pub fn carry_of(n: u32, d: i32) -> i32
     }
 }
 
-// A carry handed in: outside -1 to +1 it counts as 0.
-pub fn in_carry(d: i32) -> i32
-    ensures { λ r. ⌜ r ≡ inCarry d ⌝ }
-{
-    if (d < -1) | (1 < d) { 0 } else { d }
-}
-
 // A carry in its range.
 pub fn is_carry(d: i32) -> bool
-    ensures { λ r. ⌜ (r ≡ true → inCarry d ≡ d) ⌝ }
+    ensures { λ r. ⌜ r ≡ isCarry d ⌝ }
 {
     !((d < -1) | (1 < d))
+}
+
+// A carry handed in: outside -1 to +1 it counts as 0.
+pub fn in_carry(d: i32) -> i32
+    ensures { λ r. ⌜ r ≡ orReset isCarry (pos 0) d ⌝ }
+{
+    if is_carry(d) { d } else { 0 }
 }

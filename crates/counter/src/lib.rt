@@ -9,7 +9,7 @@ ghost use Rattle.counter.specs.Setters.{withRun};
 ghost use Rattle.counter.specs.Queue.{captured, popped};
 ghost use Rattle.counter.specs.Preload.{preloaded, started, selected};
 ghost use Rattle.counter.specs.Advance.{look, counted, loaded, nextOf, settled, step};
-ghost use Rattle.counter.specs.Repair.{repaired, resetChannel};
+ghost use Rattle.counter.specs.Repair.{channelInRange, repaired, resetChannel};
 
 mod difference;
 pub mod mode;
@@ -303,9 +303,9 @@ impl Channel {
         self.settle(now, timestamp, n)
     }
 
-    // Every field is in its range, so that the repair changes nothing.
+    // Every field is in its range.
     pub fn is_sound(self) -> bool
-        ensures { λ r. ⌜ (r ≡ true → repaired self ≡ self) ⌝ }
+        ensures { λ r. ⌜ r ≡ channelInRange self ⌝ }
     {
         let reasons = self.reasons;
         mode::is_good(self.mode)

@@ -1,8 +1,8 @@
 // The fields of the mode word, by their bits.
 ghost use mathlib.Core.Path.{_≡_};
-ghost use mathlib.Core.Bool.{cond};
 ghost use Prim.Native.Nat.{_+_, _<_};
 ghost use Rattle.words.specs.Bits.{word};
+ghost use Rattle.words.specs.Range.{orReset};
 ghost use Rattle.counter.specs.Mode.{XS, K, TD, TE, TP, OP, OM, BP, UD, NR, IM, IP, goodMode};
 
 // Mode words are below this: bits 28 to 31 are 0.
@@ -109,7 +109,7 @@ pub fn is_good(m: u32) -> bool
 
 // A mode word handed in: one that a mode write refuses counts as 0.
 pub fn in_range(m: u32) -> u32
-    ensures { λ r. ⌜ r ≡ cond (goodMode m) m 0 ⌝ }
+    ensures { λ r. ⌜ r ≡ orReset goodMode 0 m ⌝ }
 {
     if is_good(m) { m } else { 0 }
 }

@@ -1,10 +1,10 @@
 // The arrays of a capture queue.
 ghost use mathlib.Core.Path.{_≡_};
-ghost use mathlib.Core.Bool.{cond, true};
+ghost use mathlib.Core.Bool.{cond};
 ghost use Prim.Native.Nat.{_-_, _<_};
 ghost use lib.ListN.{set};
 ghost use Rattle.counter.specs.Queue.{shifted};
-ghost use Rattle.counter.specs.Repair.{inReasons};
+ghost use Rattle.counter.specs.Repair.{areReasons, inReasons};
 use crate::QUEUE;
 use crate::REASONS;
 
@@ -75,7 +75,7 @@ pub fn shift(a: [u32; QUEUE]) -> [u32; QUEUE]
 
 // Every place of the reasons' array is in its range.
 pub fn are_reasons(a: [u32; QUEUE]) -> bool
-    ensures { λ r. ⌜ (r ≡ true → inReasons a ≡ a) ⌝ }
+    ensures { λ r. ⌜ r ≡ areReasons a ⌝ }
 {
     let mut sound = true;
     let mut i: usize = 0;

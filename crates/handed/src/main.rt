@@ -1,17 +1,21 @@
 // Boards handed in. First with every field outside its range: the answer, and what is stored of the
-// board, by events that are accepted, refused, and answered 6. Then four boards that no script
-// reaches in a test's time, or whose record tells more than a call does.
+// board, by events that are accepted, refused, and answered 6, and by lists of these. Then each
+// field that has a range by itself. Then four boards that no script reaches in a test's time, or
+// whose record tells more than a call does.
+mod lists;
+mod ranges;
+mod show;
+
 use board::Board;
-use board::Outcome;
 use calls::Event;
 use control::Clock;
 use control::Core;
 use control::Safety;
 use control::Watchdog;
 use counter::Channel;
-use libc::STDOUT_FILENO;
 use ports::Pins;
 use ports::Virtuals;
+use show::show;
 
 const ALL: u32 = 4294967295;
 
@@ -131,89 +135,8 @@ fn rest_without_mark() -> Board {
     board_with(c, k)
 }
 
-// Bytes to standard output.
-fn text(t: &[u8]) {
-    io::write_all(STDOUT_FILENO, t);
-}
-
-// A name and a number.
-fn number(name: &[u8], n: u64) {
-    text(name);
-    io::print_decimal(STDOUT_FILENO, n);
-}
-
-// The same of a u32.
-fn small(name: &[u8], n: u32) {
-    number(name, n as u64);
-}
-
-// A name and the sign of a number.
-fn signed(name: &[u8], d: i32) {
-    text(name);
-    if d < 0 {
-        text(b"below 0");
-    } else {
-        if 0 < d { text(b"above 0") } else { text(b"0") }
-    }
-}
-
-// The fields of a channel that have a range, and its count.
-fn show_channel(c: Channel) {
-    small(b"  mode ", c.mode);
-    small(b" route ", c.route);
-    small(b" mask ", c.mask);
-    small(b" count ", c.count);
-    small(b" kept ", c.kept);
-    signed(b" carry ", c.carry);
-    small(b" held ", c.held);
-    small(b" lost ", c.lost);
-    small(b" reason ", c.reasons[0]);
-    text(b"\n");
-}
-
-// The pins' words.
-fn show_pins(x: Pins) {
-    number(b"  level ", x.level);
-    number(b" driven ", x.driven);
-    number(b" own ", x.own);
-    number(b" source ", x.source0);
-    number(b" ", x.source1);
-    number(b" ", x.source2);
-    text(b"\n");
-}
-
-// The board's own part.
-fn show_core(k: Core) {
-    small(b"  prescaler ", k.clock.prescaler);
-    small(b" timestamp ", k.clock.timestamp);
-    small(b" interval ", k.watchdog.interval);
-    small(b" rest ", k.watchdog.rest);
-    small(b" control ", k.safety.control);
-    text(b"\n");
-}
-
-// The answer and the next board, its channel 0 for all six.
-fn show(name: &[u8], o: Outcome) {
-    text(name);
-    small(b": ", o.answer.result);
-    small(b" ", o.answer.value);
-    small(b" ", o.answer.timestamp);
-    small(b" ", o.answer.reason);
-    text(b"\n");
-    let b = o.board;
-    let c = b.channels[0];
-    let pins = b.pins;
-    let virtuals = b.virtuals;
-    let core = b.core;
-    show_channel(c);
-    show_pins(pins);
-    number(b"  outputs ", virtuals.own);
-    text(b"\n");
-    show_core(core);
-}
-
 // A call of a kind on a member with an argument.
-fn event(kind: u8, member: u8, v: u32) -> Event {
+pub fn event(kind: u8, member: u8, v: u32) -> Event {
     Event {
         kind: kind,
         member: member,
@@ -224,7 +147,8 @@ fn event(kind: u8, member: u8, v: u32) -> Event {
     }
 }
 
-fn main() {
+// Events that are refused or answered 6 leave the board with every field outside its range.
+fn show_refused() {
     show(b"unknown kind", board::apply(broken(), event(200, 0, 0)));
     show(b"channel 6", board::apply(broken(), event(10, 6, 0)));
     show(
@@ -239,6 +163,10 @@ fn main() {
         b"snapshot read, nothing lost",
         board::apply(broken(), event(11, 1, 0)),
     );
+}
+
+// Events that are accepted store the repaired board.
+fn show_accepted() {
     show(b"count read", board::apply(broken(), event(10, 1, 0)));
     show(b"mode write", board::apply(broken(), event(1, 0, 48)));
     show(
@@ -247,6 +175,10 @@ fn main() {
     );
     show(b"status", board::apply(broken(), event(29, 0, 0)));
     show(b"step", board::apply(broken(), event(0, 0, 0)));
+}
+
+// Boards that no script reaches in a test's time, or whose record tells more than a call does.
+fn show_points() {
     show(
         b"C24, step",
         board::apply(before_the_wrap(), event(0, 0, 0)),
@@ -268,4 +200,12 @@ fn main() {
         b"W9, status after a step",
         board::apply(still, event(29, 0, 0)),
     );
+}
+
+fn main() {
+    show_refused();
+    show_accepted();
+    lists::show_lists(broken());
+    ranges::show_ranges();
+    show_points();
 }

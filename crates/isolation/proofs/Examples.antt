@@ -15,7 +15,7 @@ use Rattle.counter.specs.Difference.{clocked, errs}
 use Rattle.counter.specs.Preload.{preloaded, started}
 use Rattle.counter.specs.Queue.{captured, popped}
 use Rattle.counter.specs.Repair.{resetChannel, inReasons, repaired}
-use Rattle.ports.specs.Pins.{pinAt, putPin, pinLevel, sensedWith, driven, resetPins, repairedPins}
+use Rattle.ports.specs.Pins.{pinAt, putPin, pinLevel, sensed, driven, resetPins, repairedWords, repairedSources, repairedPins}
 use Rattle.ports.specs.Virtuals.{virtualAt, putVirtual, virtualLevels, resetVirtuals, routed, repairedVirtuals}
 use Rattle.control.specs.Clock.{advanced, ticks, repairedClock}
 use Rattle.control.specs.Safety.{guarded, repairedSafety}
@@ -23,12 +23,12 @@ use Rattle.control.specs.Watchdog.{watched, kicked, switched, repairedWatchdog}
 use Rattle.control.specs.Whole.{resetCore, repairedCore}
 use Rattle.calls.specs.BoardCalls.{intervalWrite, boardCall}
 use Rattle.calls.specs.ChannelCalls.{modeWrite, registerWrite, routeWrite, snapshotRead, channelCall}
-use Rattle.calls.specs.Fields.{limits, limit, fits}
+use Rattle.calls.specs.Fields.{stepFits, limits, limit, fits}
 use Rattle.calls.specs.PinCalls.{pinCall}
 use Rattle.calls.specs.VirtualCalls.{virtualCall}
 use Rattle.board.specs.Handed.{resetBoard, repairedBoard, lostCleared, kept, applied}
 use Rattle.board.specs.Inputs.{extouts, indexOf, samplesOf, inputsOf, channelNext, allNext}
-use Rattle.board.specs.Respond.{refusalIn, refusalBy, acceptedBy, respondBy, respondWith, respond}
+use Rattle.board.specs.Respond.{refusalIn, refusalBy, passedBy, calledBy, respondWith, respond}
 use Rattle.board.specs.Runs.{finish}
 use Rattle.board.specs.Step.{sceneOf, coreNext, stepWith, stepped}
 use Rattle.board.specs.declared.Board.{Board}
@@ -43,7 +43,7 @@ use Rattle.isolation.specs.Apart.{Computed, ending, Refuting, quorum, sp
 use Rattle.isolation.proofs.Tests.{decided}
 
 pub computed : Computed
-unfolding bit word some tab edgeReasons look countedOn masked asked loaded nextOf settled step advance clocked errs preloaded started captured popped resetChannel pinAt putPin pinLevel sensedWith driven resetPins virtualAt putVirtual virtualLevels resetVirtuals routed advanced ticks guarded watched kicked switched resetCore intervalWrite boardCall modeWrite registerWrite routeWrite snapshotRead channelCall limits limit fits pinCall virtualCall resetBoard extouts indexOf samplesOf inputsOf channelNext allNext refusalIn refusalBy acceptedBy respondBy respondWith respond finish sceneOf coreNext stepWith stepped inReasons repaired repairedPins repairedVirtuals repairedClock repairedSafety repairedWatchdog repairedCore repairedBoard lostCleared kept applied remainder keptAnswers untold latest told onOutsider struck cleared shown clauses all without afterEach among group setup neighbours trial shared sole given quorum spilling
+unfolding bit word some tab edgeReasons look countedOn masked asked loaded nextOf settled step advance clocked errs preloaded started captured popped resetChannel pinAt putPin pinLevel sensed driven resetPins virtualAt putVirtual virtualLevels resetVirtuals routed advanced ticks guarded watched kicked switched resetCore intervalWrite boardCall modeWrite registerWrite routeWrite snapshotRead channelCall stepFits limits limit fits pinCall virtualCall resetBoard extouts indexOf samplesOf inputsOf channelNext allNext refusalIn refusalBy passedBy calledBy respondWith respond finish sceneOf coreNext stepWith stepped inReasons repaired repairedWords repairedSources repairedPins repairedVirtuals repairedClock repairedSafety repairedWatchdog repairedCore repairedBoard lostCleared kept applied remainder keptAnswers untold latest told onOutsider struck cleared shown clauses all without afterEach among group setup neighbours trial shared sole given quorum spilling
 computed = record {
   alike = record {
     longer = refl;

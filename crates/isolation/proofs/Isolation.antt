@@ -11,7 +11,7 @@ use Rattle.calls.specs.declared.Event.{Event}
 use Rattle.board.specs.Respond.{respond}
 use Rattle.board.specs.Handed.{resetBoard, applied}
 use Rattle.board.specs.declared.Board.{Board}
-use Rattle.reach.specs.Range.{InRange}
+use Rattle.board.proofs.Same.{InRange, board-fields, board-whole}
 use Rattle.reach.proofs.Reach.{reset-ranged, demand2}
 use Rattle.isolation.specs.Members.{Members}
 use Rattle.isolation.specs.Settings.{Settings, untold, told}
@@ -39,10 +39,10 @@ record Beside (M : Members) (x y : Board) : Type 0 where
   right : InRange y
 
 entry : (b : Board) → InRange b → (e : Event) → applied b e ≡ respond b e
-entry b r = demand2 .0 b r .entry
+entry b r = demand2 .0 b (board-whole b r) .entry
 
 stays : (b : Board) → InRange b → (e : Event) → InRange (respond b e .state)
-stays b r = demand2 .0 b r .stays
+stays b r e = board-fields (respond b e .state) (demand2 .0 b (board-whole b r) .stays e)
 
 reached : (t : Settings) (b : Board) (e : Event) → Reached t b → Reached (told t e (applied b e .answer)) (applied b e .state)
 reached t b e r =
@@ -101,17 +101,20 @@ module _ (M : Members) where
   }
 
 -- the boards at reset
+in-range : InRange resetBoard
+in-range = board-fields resetBoard reset-ranged
+
 at-reset : (M : Members) → Beside M resetBoard resetBoard
-at-reset M = record { seen = seen-itself M resetBoard; left = reset-ranged; right = reset-ranged }
+at-reset M = record { seen = seen-itself M resetBoard; left = in-range; right = in-range }
 
 pub undisturbed : Undisturbed
 undisturbed M es closed =
     let p = alone applied (struck M) (shown M) told (Closed M) Reached (Beside M) reached (kept M) (gone M)
-    untold resetBoard resetBoard es (record { settings = told-at-reset; ranged = reset-ranged }) closed (at-reset M) in
+    untold resetBoard resetBoard es (record { settings = told-at-reset; ranged = in-range }) closed (at-reset M) in
     record { answers = p .answered; members = same-members M _ _ (p .ended .seen) }
 
 pub demand3 : Demand3
 demand3 M es fs c₁ c₂ alike =
     let p = two-runs applied (struck M) (shown M) told (Closed M) Reached (Beside M) reached (kept M) (gone M)
-    untold resetBoard es fs (record { settings = told-at-reset; ranged = reset-ranged }) (at-reset M) c₁ c₂ (both M) alike in
+    untold resetBoard es fs (record { settings = told-at-reset; ranged = in-range }) (at-reset M) c₁ c₂ (both M) alike in
     record { answers = p .0; members = same-members M _ _ (p .1 .seen) }

@@ -16,7 +16,7 @@ use Rattle.counter.specs.Samples.{samples}
 use Rattle.counter.specs.Advance.{inputs, advance}
 use Rattle.counter.specs.Repair.{noChannel}
 use Rattle.counter.specs.declared.Channel.{Channel}
-use Rattle.ports.specs.Pins.{pinAt, pinLevel, sensedWith, sourced, drivenBy, driven}
+use Rattle.ports.specs.Pins.{pinAt, pinLevel, sensed, sourced, drivenBy, driven}
 use Rattle.ports.specs.Virtuals.{virtualLevel, virtualLevels, routed}
 use Rattle.ports.specs.declared.Pin.{Pin}
 use Rattle.control.specs.Safety.{pinTriggers, activeLevel, watchdogTriggers, guarded}
@@ -122,8 +122,8 @@ module _ (M : Members) where
     levels-same =
         words-agree 48 (M .isPin) _ _ (λ p k m. ap₂ _||_ (external p k m) (ap (λ (q : Pin). q .driven) (seen .pins p k m)))
 
-    sensed-same : Agree 48 pinAt (M .isPin) (sensedWith pinLevel w (b .pins)) (sensedWith pinLevel x (h .pins))
-    unfolding sensedWith pinAt
+    sensed-same : Agree 48 pinAt (M .isPin) (sensed w (b .pins)) (sensed x (h .pins))
+    unfolding sensed pinAt
     sensed-same p k m = λ i. record {
       source = seen .pins p k m i .source;
       own = seen .pins p k m i .own;
@@ -205,14 +205,14 @@ module _ (M : Members) where
           bound : 1 ≤ s → s ≤ 6 → M .isChannel (s - 1) ≡ true
           bound = rw (told .source p k) (closed .driving p k m)
 
-      driven-bit : (p : ℕ) → p < 48 → M .isPin p ≡ true → drivenBy o₁ safemode (pinAt (sensedWith pinLevel w (b .pins)) p) ≡ drivenBy o₂ safemode (pinAt (sensedWith pinLevel x (h .pins)) p)
-      unfolding sensedWith pinAt
+      driven-bit : (p : ℕ) → p < 48 → M .isPin p ≡ true → drivenBy o₁ safemode (pinAt (sensed w (b .pins)) p) ≡ drivenBy o₂ safemode (pinAt (sensed x (h .pins)) p)
+      unfolding sensed pinAt
       driven-bit p k m =
-          let q : Pin = pinAt (sensedWith pinLevel w (b .pins)) p in
+          let q : Pin = pinAt (sensed w (b .pins)) p in
           ap (λ s. cond (safemode && q .safeenable) (q .safedata) s) (sourced-same p k m (q .own))
           ∙ ap (drivenBy o₂ safemode) (sensed-same p k m)
 
-      driven-same : Agree 48 pinAt (M .isPin) (driven o₁ safemode (sensedWith pinLevel w (b .pins))) (driven o₂ safemode (sensedWith pinLevel x (h .pins)))
+      driven-same : Agree 48 pinAt (M .isPin) (driven o₁ safemode (sensed w (b .pins))) (driven o₂ safemode (sensed x (h .pins)))
       unfolding driven pinAt
       driven-same p k m = λ i. record {
         source = sensed-same p k m i .source;
@@ -224,12 +224,12 @@ module _ (M : Members) where
       }
 
     pub step-same : Seen M (stepped v w b) (stepped y x h)
-    unfolding stepped stepWith sensedWith
+    unfolding stepped stepWith sensed
     step-same = record {
       channels = all-same;
       pins = λ p k m.
           driven-same _ _ (extouts-same _ _ all-same) _ p k m
-          ∙ ap (λ (c : Core). pinAt (driven (extouts (allNext (scene y x h) (h .channels))) (c .safety .safemode) (sensedWith pinLevel x (h .pins))) p) core-same;
+          ∙ ap (λ (c : Core). pinAt (driven (extouts (allNext (scene y x h) (h .channels))) (c .safety .safemode) (sensed x (h .pins))) p) core-same;
       virtuals = seen .virtuals;
       core = core-same;
     }

@@ -1,21 +1,21 @@
 -- Every event leaves the settings that the list tells and those of the board equal.
 -- Assumes nothing.
 use mathlib.Core.Path.{_≡_, refl, ap, sym, _∙_}
-use mathlib.Core.Bool.{true, false}
+use mathlib.Core.Bool.{true, false, and-eq-true-iff}
 use Prim.Native.Nat.{ℕ, _<_}
 use native.Mathlib.Omega.{arith}
 use lib.Dec.{eqb}
 use lib.ListN.{getD-replicate}
-use borrow.Author.Tests.{eqb-false, eq-eqb, ne-eqb}
+use borrow.Author.Tests.{ltb-true, eqb-true, eqb-false, eq-eqb, ne-eqb}
 use Rattle.words.proofs.BitLaws.{bit-none}
 use Rattle.counter.specs.Repair.{noChannel, resetChannel}
 use Rattle.counter.specs.declared.Channel.{Channel}
-use Rattle.ports.specs.Pins.{pinAt, sensedWith, driven, resetPins}
+use Rattle.ports.specs.Pins.{pinAt, sensed, driven, resetPins}
 use Rattle.ports.specs.declared.Pin.{Pin}
 use Rattle.control.specs.Safety.{guarded}
 use Rattle.control.specs.Whole.{resetCore}
 use Rattle.calls.specs.Reply.{Reply, refuse}
-use Rattle.calls.specs.Fields.{fits}
+use Rattle.calls.specs.Fields.{isStep, fits}
 use Rattle.calls.specs.ChannelCalls.{channelCall}
 use Rattle.calls.specs.PinCalls.{pinCall}
 use Rattle.calls.specs.BoardCalls.{boardCall}
@@ -23,12 +23,15 @@ use Rattle.calls.specs.declared.Event.{Event}
 use Rattle.calls.specs.declared.Answer.{Answer}
 use Rattle.board.specs.Inputs.{channelIn, channelNext, allNext}
 use Rattle.board.specs.Step.{coreNext, stepWith, stepped}
-use Rattle.board.specs.Respond.{Class, step, channel, pin, virtual, board, unknown, classOf, refusalIn, refusalBy, checked, acceptedBy, respondBy, respondWith, respond}
+use Rattle.board.specs.Respond.{classOf, refusalIn, refusalBy, checked, passedBy, calledBy, respondWith, respond}
+use Rattle.board.specs.declared.Class.{Class}
+use Rattle.board.specs.declared.Class.the-variants.{Step, OnChannel, OnPin, OnVirtual, OnBoard, Unknown}
 use Rattle.board.specs.Handed.{resetBoard}
 use Rattle.board.specs.declared.Board.{Board}
-use Rattle.reach.specs.Range.{InRange}
+use Rattle.board.proofs.Same.{InRange}
+use Rattle.words.proofs.Cases.{tested}
 use Rattle.words.proofs.Tables.{getD-tab}
-use Rattle.reach.proofs.RangedBoard.{past-checks, past-fields}
+use Rattle.reach.proofs.RangedBoard.{past-checks}
 use Rattle.reach.proofs.RangedPins.{pin-sound, pin-ranged}
 use Rattle.isolation.specs.Settings.{Settings, untold, latest, told}
 use Rattle.isolation.proofs.Placed.{channels-placed, source-held, pins-placed}
@@ -63,26 +66,29 @@ quiet t b d e a m k k1 k4 k13 k22 = record {
 }
 
 -- the kinds of one class are no kinds of another
-abbrev pub code : Class → ℕ
-code step = 0
-code channel = 1
-code pin = 2
-code virtual = 3
-code board = 4
-code unknown = 5
+abbrev code : Class → ℕ
+code Step = 0
+code OnChannel = 1
+code OnPin = 2
+code OnVirtual = 3
+code OnBoard = 4
+code Unknown = 5
 
 module _ (e : Event) (a : Answer) where
   of-class : (C : Class) → classOf (e .kind) ≡ C → (k : ℕ) → eqb (code C) (code (classOf k)) ≡ false → Silent e a k
   of-class C p k d i old = of-another-kind k i e a old (ne-eqb (e .kind) k (λ h. eqb-false (code C) (code (classOf k)) d (ap code (sym p ∙ ap classOf h))))
 
-  pub step-quiet : (t : Settings) (b d : Board) → classOf (e .kind) ≡ step → Told t b → Told (settingsOf b) d → Told (told t e a) d
+  pub step-quiet : (t : Settings) (b d : Board) → classOf (e .kind) ≡ Step → Told t b → Told (settingsOf b) d → Told (told t e a) d
   step-quiet t b d p m k =
-      quiet t b d e a m k (of-class step p 1 refl) (of-class step p 4 refl) (of-class step p 13 refl) (of-class step p 22 refl)
+      quiet t b d e a m k (of-class Step p 1 refl) (of-class Step p 4 refl) (of-class Step p 13 refl) (of-class Step p 22 refl)
 
 -- ---- the step
 
+pub class-of-step : (e : Event) → isStep e ≡ true → classOf (e .kind) ≡ Step
+class-of-step e h = ap classOf (eqb-true (e .kind) 0 (and-eq-true-iff (eqb (e .kind) 0) _ .0 h .0))
+
 stepped-keeps : (v w : ℕ) (b : Board) → Told (settingsOf b) (stepped v w b)
-unfolding stepped stepWith allNext channelNext coreNext guarded driven sensedWith pinAt
+unfolding stepped stepWith allNext channelNext coreNext guarded driven sensed pinAt
 stepped-keeps v w b = record {
   mode = λ c h. ap (λ (x : Channel). x .mode) (getD-tab 6 _ c noChannel h) ∙ advance-same (channelIn (b .channels) c) _ .mode;
   route = λ c h. ap (λ (x : Channel). x .route) (getD-tab 6 _ c noChannel h) ∙ advance-same (channelIn (b .channels) c) _ .route;
@@ -106,12 +112,10 @@ module _ (t : Settings) (b : Board) (e : Event) (m : Told t b) (range : InRange 
   within : (n : ℕ) (r : Reply Board) → (e .member < n → fits e ≡ true → Telling t e r) → Telling t e (checked (refusalIn n e) b r)
   within n r = past-checks (Telling t e) n e b r (refused 3 refl) (refused 1 refl)
 
-  by-class : (C : Class) → classOf (e .kind) ≡ C → Telling t e (respondBy stepped C b e)
-  unfolding respondBy refusalBy acceptedBy told
-  by-class step p =
-      past-fields (Telling t e) e b _ (refused 3 refl)
-      (record { after = step-quiet e _ t b (stepped (e .v) (e .w) b) p m (stepped-keeps (e .v) (e .w) b) })
-  by-class channel p = within 6 _ (λ k f.
+  by-class : (C : Class) → classOf (e .kind) ≡ C → Telling t e (calledBy C b e)
+  unfolding calledBy refusalBy passedBy told
+  by-class Step p = refused 3 refl
+  by-class OnChannel p = within 6 _ (λ k f.
       let c : Channel = channelIn (b .channels) (e .member) in
       let q : Reply Channel = channelCall (b .core .clock .timestamp) e c in
       let s : SetChannel c (eqb (e .kind) 1) (eqb (e .kind) 4) (e .v) q = channel-set c _ e in
@@ -119,41 +123,44 @@ module _ (t : Settings) (b : Board) (e : Event) (m : Told t b) (range : InRange 
         after = record {
           mode = put-told 6 channelIn (b .channels) (channels-placed (b .channels) (range .six)) (λ x. x .mode) 1 e q (t .mode) k (s .mode .after) (m .mode);
           route = put-told 6 channelIn (b .channels) (channels-placed (b .channels) (range .six)) (λ x. x .route) 4 e q (t .route) k (s .route .after) (m .route);
-          source = λ i h. m .source i h ∙ sym (of-class e _ channel p 13 refl i (t .source i));
-          control = m .control ∙ sym (of-class e _ channel p 22 refl 0 (t .control));
+          source = λ i h. m .source i h ∙ sym (of-class e _ OnChannel p 13 refl i (t .source i));
+          control = m .control ∙ sym (of-class e _ OnChannel p 22 refl 0 (t .control));
         };
       })
-  by-class pin p = within 48 _ (λ k f.
+  by-class OnPin p = within 48 _ (λ k f.
       let x : Pin = pinAt (b .pins) (e .member) in
       let q : Reply Pin = pinCall (b .core .safety .writes) e x in
       let s : Sets (λ (z : Pin). z .source) (eqb (e .kind) 13) (e .v) x q = pin-set x _ e in
       record {
         after = record {
-          mode = λ c h. m .mode c h ∙ sym (of-class e _ pin p 1 refl c (t .mode c));
-          route = λ c h. m .route c h ∙ sym (of-class e _ pin p 4 refl c (t .route c));
+          mode = λ c h. m .mode c h ∙ sym (of-class e _ OnPin p 1 refl c (t .mode c));
+          route = λ c h. m .route c h ∙ sym (of-class e _ OnPin p 4 refl c (t .route c));
           source =
               put-told 48 pinAt (b .pins) (pins-placed (b .pins)) (λ x. x .source) 13 e q (t .source) k
-              (source-held (q .state) (pin-sound x (pin-ranged (b .pins) (range .pins) (e .member) k) _ e f .ranged .source) ∙ s .after) (m .source);
-          control = m .control ∙ sym (of-class e _ pin p 22 refl 0 (t .control));
+              (source-held (q .state) (ltb-true _ 7 (pin-sound x (pin-ranged (b .pins) (range .pins) (e .member) k) _ e f .ranged .source)) ∙ s .after) (m .source);
+          control = m .control ∙ sym (of-class e _ OnPin p 22 refl 0 (t .control));
         };
       })
-  by-class virtual p = within 6 _ (λ k f. record {
+  by-class OnVirtual p = within 6 _ (λ k f. record {
     after = quiet t b _ e _ m (record { mode = λ c h. refl; route = λ c h. refl; source = λ p h. refl; control = refl })
-        (of-class e _ virtual p 1 refl) (of-class e _ virtual p 4 refl) (of-class e _ virtual p 13 refl) (of-class e _ virtual p 22 refl);
+        (of-class e _ OnVirtual p 1 refl) (of-class e _ OnVirtual p 4 refl) (of-class e _ OnVirtual p 13 refl) (of-class e _ OnVirtual p 22 refl);
   })
-  by-class board p = within 1 _ (λ k f. record {
+  by-class OnBoard p = within 1 _ (λ k f. record {
     after = record {
-      mode = λ c h. m .mode c h ∙ sym (of-class e _ board p 1 refl c (t .mode c));
-      route = λ c h. m .route c h ∙ sym (of-class e _ board p 4 refl c (t .route c));
-      source = λ i h. m .source i h ∙ sym (of-class e _ board p 13 refl i (t .source i));
+      mode = λ c h. m .mode c h ∙ sym (of-class e _ OnBoard p 1 refl c (t .mode c));
+      route = λ c h. m .route c h ∙ sym (of-class e _ OnBoard p 4 refl c (t .route c));
+      source = λ i h. m .source i h ∙ sym (of-class e _ OnBoard p 13 refl i (t .source i));
       control =
           core-set (b .core) e .after
           ∙ ap (λ z. setBy (eqb (e .kind) 22) (boardCall e (b .core) .answer) (e .v) z) (m .control)
           ∙ sym (on-it 22 0 e _ (t .control) (eq-eqb (e .member) 0 (omega arith)));
     };
   })
-  by-class unknown p = refused 2 refl
+  by-class Unknown p = refused 2 refl
 
   pub respond-tells : Told (told t e (respond b e .answer)) (respond b e .state)
   unfolding respond respondWith
-  respond-tells = by-class (classOf (e .kind)) refl .after
+  respond-tells =
+      tested (Telling t e) (isStep e)
+      (λ h. record { after = step-quiet e _ t b (stepped (e .v) (e .w) b) (class-of-step e h) m (stepped-keeps (e .v) (e .w) b) })
+      (λ _. by-class (classOf (e .kind)) refl) .after

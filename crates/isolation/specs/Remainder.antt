@@ -6,17 +6,19 @@ use lib.Dec.{eqb}
 use Rattle.words.specs.Bits.{bit, word}
 use Rattle.calls.specs.declared.Event.{Event}
 use Rattle.calls.specs.declared.Answer.{Answer}
-use Rattle.board.specs.Respond.{Class, step, channel, pin, virtual, board, unknown, classOf}
+use Rattle.board.specs.Respond.{classOf}
+use Rattle.board.specs.declared.Class.{Class}
+use Rattle.board.specs.declared.Class.the-variants.{Step, OnChannel, OnPin, OnVirtual, OnBoard, Unknown}
 use Rattle.isolation.specs.Members.{Members}
 
 -- a call on an outsider, by the class of its kind; a board call is on no member
 unfoldable pub onOutsider : Members → Class → ℕ → Bool
-onOutsider M step i = false
-onOutsider M channel i = not (M .isChannel i)
-onOutsider M pin i = not (M .isPin i)
-onOutsider M virtual i = not (M .isVirtual i)
-onOutsider M board i = false
-onOutsider M unknown i = false
+onOutsider M Step i = false
+onOutsider M OnChannel i = not (M .isChannel i)
+onOutsider M OnPin i = not (M .isPin i)
+onOutsider M OnVirtual i = not (M .isVirtual i)
+onOutsider M OnBoard i = false
+onOutsider M Unknown i = false
 
 -- answered 1 or 2: no such member, no such kind
 abbrev pub isMisaddressed : Answer → Bool

@@ -135,8 +135,8 @@ pub fn kind_of(w: &[u8]) -> u32
 pub fn put_name(out: &mut [u8], at: usize, k: usize) -> usize
     requires { ⌜ k < 31 ⌝ }
     requires { ⌜ at + 25 ≤ length (now out) ⌝ }
-    ensures { λ r. ⌜ r ≤ at + 25 ⌝ }
-    ensures { λ r. ⌜ (r ≡ at + length (name k)) × (now (out .exit) ≡ put (now (out .entry)) at (name k)) ⌝ }
+    ensures within { λ r. ⌜ r ≤ at + 25 ⌝ }
+    ensures wrote { λ r. ⌜ (r ≡ at + length (name k)) × (now (out .exit) ≡ put (now (out .entry)) at (name k)) ⌝ }
 {
     let all = NAMES;
     let from = STARTS[k];
@@ -232,8 +232,8 @@ pub fn put_input(out: &mut [u8], at: usize, i: u64) -> usize
 pub fn put_pin(out: &mut [u8], at: usize, i: u64) -> usize
     requires { ⌜ i < 48 ⌝ }
     requires { ⌜ at + 4 ≤ length (now out) ⌝ }
-    ensures { λ r. ⌜ r ≤ at + 4 ⌝ }
-    ensures { λ r. ⌜ (r ≡ at + length (32 ∷ pinName i)) × (now (out .exit) ≡ put (now (out .entry)) at (32 ∷ pinName i)) ⌝ }
+    ensures within { λ r. ⌜ r ≤ at + 4 ⌝ }
+    ensures wrote { λ r. ⌜ (r ≡ at + length (32 ∷ pinName i)) × (now (out .exit) ≡ put (now (out .entry)) at (32 ∷ pinName i)) ⌝ }
 {
     out[at] = b' ';
     out[at + 1] = b'p';

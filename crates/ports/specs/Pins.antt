@@ -1,9 +1,10 @@
 -- The 48 pins: bit p of each word is pin p's. Document 01, "The step", parts 2 and 6, and the pins of a board handed in.
 -- Assumes nothing.
 use mathlib.Core.Bool.{Bool, true, false, cond, _&&_, _||_}
-use Prim.Native.Nat.{ℕ, _-_}
+use Prim.Native.Nat.{ℕ, _-_, _^_}
 use lib.Dec.{ltb}
-use Rattle.words.specs.Bits.{bit, flags, word, putBit}
+use Rattle.words.specs.Bits.{bit, flags, word, every, putBit}
+use Rattle.words.specs.Range.{orReset}
 use Rattle.ports.specs.declared.Pin.{Pin}
 use Rattle.ports.specs.declared.Pins.{Pins}
 
@@ -67,13 +68,16 @@ withDriven w x =
 unfoldable pub pinLevel : Pins → ℕ → ℕ → Bool
 pinLevel x w p = bit w p || pinAt x p .driven
 
--- the pins with the levels that `level` gives, pin by pin
-unfoldable pub sensedWith : (Pins → ℕ → ℕ → Bool) → ℕ → Pins → Pins
-sensedWith level w x = withLevel (word 48 (level x w)) x
+unfoldable pub sensed : ℕ → Pins → Pins
+sensed w x = withLevel (word 48 (pinLevel x w)) x
+
+-- a source number is 0 for the own register, or names one of six channels
+abbrev pub isSource : ℕ → Bool
+isSource s = ltb s 7
 
 -- what a source number gives: 1 to 6 the ExtOut of channel 0 to 5, which is a bit of `outs`; else the own register
 abbrev pub sourced : ℕ → Bool → ℕ → Bool
-sourced s own outs = cond (ltb 0 s && ltb s 7) (bit outs (s - 1)) own
+sourced s own outs = cond (ltb 0 s && isSource s) (bit outs (s - 1)) own
 
 -- part 6: a pin is driven with its safe data if safemode and its safe enable are 1, else with its source
 abbrev pub drivenBy : ℕ → Bool → Pin → Bool
@@ -82,21 +86,59 @@ drivenBy outs safemode q = cond (safemode && q .safeenable) (q .safedata) (sourc
 unfoldable pub driven : ℕ → Bool → Pins → Pins
 driven outs safemode x = withDriven (word 48 (λ p. drivenBy outs safemode (pinAt x p))) x
 
--- the pins of a board handed in: bits past pin 47 are no pin's, and a source number above 6 counts as 0
-unfoldable pub repairedPins : Pins → Pins
-repairedPins x =
-    record {
-      level = word 48 (bit (x .level));
-      driven = word 48 (bit (x .driven));
-      own = word 48 (bit (x .own));
-      safedata = word 48 (bit (x .safedata));
-      safeenable = word 48 (bit (x .safeenable));
-      source0 = word 48 (λ p. bit (x .source0) p && ltb (pinAt x p .source) 7);
-      source1 = word 48 (λ p. bit (x .source1) p && ltb (pinAt x p .source) 7);
-      source2 = word 48 (λ p. bit (x .source2) p && ltb (pinAt x p .source) 7);
-    }
-
 -- at reset all is 0, but every safe enable 1
 unfoldable pub resetPins : Pins
 resetPins =
     record { level = 0; driven = 0; own = 0; safedata = 0; safeenable = word 48 (λ p. true); source0 = 0; source1 = 0; source2 = 0 }
+
+-- a word of the pins has 48 bits
+abbrev pub isPinWord : ℕ → Bool
+isPinWord w = ltb w (2 ^ 48)
+
+-- every word and every source number is in its range
+unfoldable pub pinsInRange : Pins → Bool
+pinsInRange x =
+    isPinWord (x .level)
+    && isPinWord (x .driven)
+    && isPinWord (x .own)
+    && isPinWord (x .safedata)
+    && isPinWord (x .safeenable)
+    && isPinWord (x .source0)
+    && isPinWord (x .source1)
+    && isPinWord (x .source2)
+    && every 48 (λ p. isSource (pinAt x p .source))
+
+-- a word outside its range counts as at reset
+unfoldable pub repairedWords : Pins → Pins
+repairedWords x =
+    record {
+      level = orReset isPinWord (resetPins .level) (x .level);
+      driven = orReset isPinWord (resetPins .driven) (x .driven);
+      own = orReset isPinWord (resetPins .own) (x .own);
+      safedata = orReset isPinWord (resetPins .safedata) (x .safedata);
+      safeenable = orReset isPinWord (resetPins .safeenable) (x .safeenable);
+      source0 = orReset isPinWord (resetPins .source0) (x .source0);
+      source1 = orReset isPinWord (resetPins .source1) (x .source1);
+      source2 = orReset isPinWord (resetPins .source2) (x .source2);
+    }
+
+-- a plane without the pins whose source number is outside its range, so that this number is 0
+abbrev pub mended : Pins → ℕ → ℕ
+mended x s = word 48 (λ p. bit s p && isSource (pinAt x p .source))
+
+unfoldable pub repairedSources : Pins → Pins
+repairedSources x =
+    record {
+      level = x .level;
+      driven = x .driven;
+      own = x .own;
+      safedata = x .safedata;
+      safeenable = x .safeenable;
+      source0 = mended x (x .source0);
+      source1 = mended x (x .source1);
+      source2 = mended x (x .source2);
+    }
+
+-- the pins of a board handed in: the words first, then the source numbers that stand in them
+unfoldable pub repairedPins : Pins → Pins
+repairedPins x = repairedSources (repairedWords x)

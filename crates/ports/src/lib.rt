@@ -2,11 +2,11 @@
 // them. A function that takes a pin's or an output's number asks that there is one.
 ghost use mathlib.Core.Path.{_≡_};
 ghost use Prim.Native.Nat.{_<_};
-ghost use mathlib.Core.Bool.{cond, true, _&&_};
-ghost use lib.Dec.{ltb};
+ghost use mathlib.Core.Bool.{cond, _&&_};
 ghost use Rattle.words.specs.Bits.{bit, word, putBit};
-ghost use Rattle.ports.specs.Pins.{number, pinAt, putPin, pinLevel, sensedWith, sourced, driven, repairedPins, resetPins};
-ghost use Rattle.ports.specs.Virtuals.{virtualAt, putVirtual, virtualLevels, repairedVirtuals, resetVirtuals, routed};
+ghost use Rattle.words.specs.Range.{orReset};
+ghost use Rattle.ports.specs.Pins.{number, pinAt, putPin, sensed, isSource, sourced, driven, isPinWord, pinsInRange, repairedPins, resetPins};
+ghost use Rattle.ports.specs.Virtuals.{virtualAt, putVirtual, virtualLevels, isOutputWord, virtualsInRange, repairedVirtuals, resetVirtuals, routed};
 
 // The number of pins, and of virtual outputs.
 pub const PINS: u64 = 48;
@@ -110,9 +110,16 @@ fn guarded(base: u64, safemode: bool, safedata: u64, safeenable: u64) -> u64
 
 // A plane of the source numbers without the pins whose number is 7.
 fn mended(s: u64, s0: u64, s1: u64, s2: u64) -> u64
-    ensures { λ r. ⌜ r ≡ word 48 (λ p. bit s p && ltb (number (bit s0 p) (bit s1 p) (bit s2 p)) 7) ⌝ }
+    ensures { λ r. ⌜ r ≡ word 48 (λ p. bit s p && isSource (number (bit s0 p) (bit s1 p) (bit s2 p))) ⌝ }
 {
     words::without(s, words::both(words::both(s0, s1), s2))
+}
+
+// A word of the pins handed in.
+fn pin_word(reset: u64, w: u64) -> u64
+    ensures { λ r. ⌜ r ≡ orReset isPinWord reset w ⌝ }
+{
+    words::word_below(words::WORDS, reset, w)
 }
 
 impl Pins {
@@ -155,7 +162,7 @@ impl Pins {
 
     // Part 2 of a step: the levels, from the external levels and what the pins were driven with.
     pub fn sense(mut self, w: u64) -> Pins
-        ensures { λ r. ⌜ r ≡ sensedWith pinLevel w self ⌝ }
+        ensures { λ r. ⌜ r ≡ sensed w self ⌝ }
     {
         self.level = words::either(w, self.driven);
         self
@@ -170,9 +177,9 @@ impl Pins {
         self
     }
 
-    // Every field is in its range, so that the repair changes nothing.
+    // Every word and every source number is in its range.
     pub fn is_sound(self) -> bool
-        ensures { λ r. ⌜ (r ≡ true → repairedPins self ≡ self) ⌝ }
+        ensures { λ r. ⌜ r ≡ pinsInRange self ⌝ }
     {
         (self.level < words::WORDS)
             & (self.driven < words::WORDS)
@@ -185,19 +192,22 @@ impl Pins {
             & (words::both(words::both(self.source0, self.source1), self.source2) == 0)
     }
 
-    // Pins handed in, with what is outside its range as at reset.
+    // Pins handed in: a word outside its range counts as at reset, then a source number 7 as 0.
     pub fn repair(self) -> Pins
         ensures { λ r. ⌜ r ≡ repairedPins self ⌝ }
     {
+        let s0 = pin_word(0, self.source0);
+        let s1 = pin_word(0, self.source1);
+        let s2 = pin_word(0, self.source2);
         Pins {
-            level: words::cut(self.level),
-            driven: words::cut(self.driven),
-            own: words::cut(self.own),
-            safedata: words::cut(self.safedata),
-            safeenable: words::cut(self.safeenable),
-            source0: mended(self.source0, self.source0, self.source1, self.source2),
-            source1: mended(self.source1, self.source0, self.source1, self.source2),
-            source2: mended(self.source2, self.source0, self.source1, self.source2),
+            level: pin_word(0, self.level),
+            driven: pin_word(0, self.driven),
+            own: pin_word(0, self.own),
+            safedata: pin_word(0, self.safedata),
+            safeenable: pin_word(words::all(true), self.safeenable),
+            source0: mended(s0, s0, s1, s2),
+            source1: mended(s1, s0, s1, s2),
+            source2: mended(s2, s0, s1, s2),
         }
     }
 }
@@ -226,11 +236,11 @@ fn put_virtual_bit(w: u64, o: u64, t: bool) -> u64
     words::put(w, o, t) % OUTPUTS
 }
 
-// A word of the outputs without the bits above bit 5.
-fn cut_virtual(w: u64) -> u64
-    ensures { λ r. ⌜ r ≡ word 6 (bit w) ⌝ }
+// A word of the outputs handed in.
+fn output_word(reset: u64, w: u64) -> u64
+    ensures { λ r. ⌜ r ≡ orReset isOutputWord reset w ⌝ }
 {
-    w % OUTPUTS
+    words::word_below(OUTPUTS, reset, w)
 }
 
 impl Virtuals {
@@ -265,21 +275,21 @@ impl Virtuals {
         guarded(self.own, safemode, self.safedata, self.safeenable) % OUTPUTS
     }
 
-    // Every field is in its range, so that the repair changes nothing.
+    // Every word is in its range.
     pub fn is_sound(self) -> bool
-        ensures { λ r. ⌜ (r ≡ true → repairedVirtuals self ≡ self) ⌝ }
+        ensures { λ r. ⌜ r ≡ virtualsInRange self ⌝ }
     {
         (self.own < OUTPUTS) & (self.safedata < OUTPUTS) & (self.safeenable < OUTPUTS)
     }
 
-    // Outputs handed in, without the bits that are no output's.
+    // Outputs handed in: a word outside its range counts as at reset.
     pub fn repair(self) -> Virtuals
         ensures { λ r. ⌜ r ≡ repairedVirtuals self ⌝ }
     {
         Virtuals {
-            own: cut_virtual(self.own),
-            safedata: cut_virtual(self.safedata),
-            safeenable: cut_virtual(self.safeenable),
+            own: output_word(0, self.own),
+            safedata: output_word(0, self.safedata),
+            safeenable: output_word(ALL_OUTPUTS, self.safeenable),
         }
     }
 }

@@ -1,16 +1,16 @@
 -- On a board in range the entry point is the machine.
 -- Assumes nothing.
 use mathlib.Core.Path.{_≡_, refl, sym}
+use mathlib.Core.Bool.{true}
 use lib.Dec.{eqb}
 use Rattle.calls.specs.Reply.{Reply, reply}
 use Rattle.calls.specs.declared.Event.{Event}
 use Rattle.board.specs.Respond.{respond}
-use Rattle.board.specs.Handed.{kept, applied}
+use Rattle.board.specs.Handed.{inRange, kept, applied}
 use Rattle.board.specs.declared.Board.{Board}
-use Rattle.reach.specs.Range.{InRange}
+use Rattle.board.proofs.Same.{board-fields, board-same}
 use Rattle.words.proofs.Cases.{tested}
 use Rattle.reach.proofs.RangedBoard.{SoundEvent, respond-sound}
-use Rattle.reach.proofs.Repaired.{board-same}
 
 kept-same : (b : Board) (e : Event) (r : Reply Board) → SoundEvent b e r → kept b e r ≡ r
 unfolding kept
@@ -20,6 +20,6 @@ kept-same b e r s =
     (λ k. λ i. reply (sym (s .lost k) i) (r .answer))
     (λ k. λ i. reply (sym (s .refused h k) i) (r .answer)))
 
-pub entry-same : (b : Board) → InRange b → (e : Event) → applied b e ≡ respond b e
+pub entry-same : (b : Board) → inRange b ≡ true → (e : Event) → applied b e ≡ respond b e
 unfolding applied
-entry-same b r e = rw (board-same b r) (kept-same b e (respond b e) (respond-sound b r e))
+entry-same b r e = rw (board-same b r) (kept-same b e (respond b e) (respond-sound b (board-fields b r) e))

@@ -8,6 +8,6 @@ pub mod RangedPins
 pub mod RangedVirtuals
 pub mod RangedCore
 pub mod RangedBoard
-pub mod Repaired
 pub mod Entry
 pub mod Reach
+pub mod Handed

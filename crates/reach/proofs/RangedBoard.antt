@@ -11,24 +11,27 @@ use lib.Seq.{set-getD}
 use Rattle.words.specs.Bits.{bit}
 use Rattle.counter.specs.Mode.{XS, IP}
 use Rattle.counter.specs.Setters.{withLost}
-use Rattle.counter.specs.Repair.{noChannel}
+use Rattle.counter.specs.Repair.{isKept, noChannel}
 use Rattle.counter.specs.declared.Channel.{Channel}
-use Rattle.ports.specs.Pins.{pinAt, putPin, pinLevel}
+use Rattle.counter.proofs.Same.{ChannelInRange}
+use Rattle.ports.specs.Pins.{pinAt, putPin}
 use Rattle.ports.specs.Virtuals.{virtualAt, putVirtual, routed}
 use Rattle.calls.specs.Reply.{Reply, refuse}
-use Rattle.calls.specs.Fields.{fits}
+use Rattle.calls.specs.Fields.{isStep, fits}
 use Rattle.calls.specs.declared.Event.{Event}
 use Rattle.board.specs.Inputs.{channelIn, neighbour, indexOf, samplesOf, inputsOf, channelNext, allNext}
 use Rattle.board.specs.Step.{stepWith, stepped}
-use Rattle.board.specs.Respond.{Class, step, channel, pin, virtual, board, unknown, classOf, withChannels, withPins, withVirtuals, withCore, refusalIn, refusalBy, checked, acceptedBy, respondBy, respondWith, respond}
+use Rattle.board.specs.Respond.{classOf, withChannels, withPins, withVirtuals, withCore, refusalIn, refusalBy, checked, passedBy, calledBy, respondWith, respond}
+use Rattle.board.specs.declared.Class.{Class}
+use Rattle.board.specs.declared.Class.the-variants.{Step, OnChannel, OnPin, OnVirtual, OnBoard, Unknown}
 use Rattle.board.specs.Handed.{lostCleared}
 use Rattle.board.specs.declared.Board.{Board}
 use Rattle.board.specs.declared.Scene.{Scene}
-use Rattle.reach.specs.Range.{ChannelInRange, InRange}
-use Rattle.words.proofs.Cases.{taken}
+use Rattle.board.proofs.Same.{InRange}
+use Rattle.words.proofs.Cases.{either, taken}
 use Rattle.words.proofs.Tables.{length-tab, getD-tab, set-keeps}
 use Rattle.reach.proofs.Sound.{Sound, refusal, done, put-back}
-use Rattle.reach.proofs.RangedStep.{samples-lt, advance-ranged}
+use Rattle.reach.proofs.RangedStep.{samples-kept, advance-ranged}
 use Rattle.reach.proofs.RangedChannel.{channel-sound}
 use Rattle.reach.proofs.RangedPins.{pin-sound, pin-ranged, put-pin-ranged, sensed-ranged, driven-ranged}
 use Rattle.reach.proofs.RangedVirtuals.{virtual-sound, put-virtual-ranged}
@@ -36,10 +39,10 @@ use Rattle.reach.proofs.RangedCore.{core-sound, core-ranged}
 
 -- ---- the step
 
-now-ranged : (s : Scene) (c mode route : ℕ) → samplesOf s c mode route < 16
+now-ranged : (s : Scene) (c mode route : ℕ) → isKept (samplesOf s c mode route) ≡ true
 unfolding samplesOf
 now-ranged s c mode route =
-    samples-lt (bit (s .lines) (3 * c)) (bit (s .lines) (3 * c + 1)) (indexOf (XS mode) (bit (s .lines) (3 * c + 2)) (s .outs) (s .ticks))
+    samples-kept (bit (s .lines) (3 * c)) (bit (s .lines) (3 * c + 1)) (indexOf (XS mode) (bit (s .lines) (3 * c + 2)) (s .outs) (s .ticks))
     (not (Bool·beq (routed (s .levels) (s .virtuals) route) (IP mode)))
 
 channel-ranged : (s : Scene) (cs : List Channel) (c : ℕ) → ChannelInRange (channelIn cs c) → ChannelInRange (channelNext s cs c)
@@ -53,7 +56,7 @@ unfolding stepped stepWith allNext
 stepped-ranged v w b r = record {
   six = length-tab 6 _;
   channels = λ c h. rw getD-tab (channel-ranged _ (b .channels) c (r .channels c h));
-  pins = driven-ranged _ (sensed-ranged (b .pins) (r .pins) pinLevel w) _ _;
+  pins = driven-ranged _ (sensed-ranged (b .pins) (r .pins) w) _ _;
   virtuals = r .virtuals;
   core = core-ranged (b .core) (r .core) _;
 }
@@ -70,15 +73,6 @@ past-checks P n e b x p q s = go (ltb (e .member) n) refl (fits e) refl
     go true h true f = rw (h, f) (s (ltb-true _ _ h) f)
     go true h false f = rw (h, f) p
     go false h u f = rw h q
-
--- the same for a step, whose member is one of its fields
-pub past-fields : (P : Reply Board → Type 0) (e : Event) (b : Board) (x : Reply Board) → P (refuse 3 b) → P x → P (checked (refusalBy step e) b x)
-unfolding refusalBy
-past-fields P e b x p s = go (fits e) refl
-  where
-    go : (u : Bool) → fits e ≡ u → P (checked (refusalBy step e) b x)
-    go true f = rw f s
-    go false f = rw f p
 
 -- an answer 6 sets the member's lost count to 0
 abbrev pub SoundEvent : Board → Event → Reply Board → Type 0
@@ -107,33 +101,33 @@ module _ (b : Board) (r : InRange b) where
     checked-sound : (n : ℕ) (x : Reply Board) → (e .member < n → fits e ≡ true → SoundEvent b e x) → SoundEvent b e (checked (refusalIn n e) b x)
     checked-sound n x = past-checks (SoundEvent b e) n e b x (refusal 3 b refl r refl) (refusal 1 b refl r refl)
 
-    by-class : (k : Class) → SoundEvent b e (respondBy stepped k b e)
-    unfolding respondBy refusalBy acceptedBy
-    by-class step = past-fields (SoundEvent b e) e b _ (refusal 3 b refl r refl) (done (stepped-ranged (e .v) (e .w) b r))
-    by-class channel =
+    by-class : (k : Class) → SoundEvent b e (calledBy k b e)
+    unfolding calledBy refusalBy passedBy
+    by-class Step = refusal 3 b refl r refl
+    by-class OnChannel =
         checked-sound 6 _ (λ m f.
         put-back (λ c. withChannels (set (b .channels) (e .member) c) b) _
         (channel-sound (channelIn (b .channels) (e .member)) (r .channels (e .member) m) _ e f)
         (set-ranged (e .member)) (set-same (e .member)) (λ c. set-lost (e .member) c m))
-    by-class pin =
+    by-class OnPin =
         checked-sound 48 _ (λ m f.
         put-back (λ q. withPins (putPin (e .member) q (b .pins)) b) _
         (pin-sound (pinAt (b .pins) (e .member)) (pin-ranged (b .pins) (r .pins) (e .member) m) _ e f)
         (λ q p. record { six = r .six; channels = r .channels; pins = put-pin-ranged (b .pins) (r .pins) (e .member) q p; virtuals = r .virtuals; core = r .core })
         (λ q n. absurd n) (λ q n. absurd n))
-    by-class virtual =
+    by-class OnVirtual =
         checked-sound 6 _ (λ m f.
         put-back (λ o. withVirtuals (putVirtual (e .member) o (b .virtuals)) b) _
         (virtual-sound _ e (virtualAt (b .virtuals) (e .member)))
         (λ o p. record { six = r .six; channels = r .channels; pins = r .pins; virtuals = put-virtual-ranged (e .member) o (b .virtuals); core = r .core })
         (λ o n. absurd n) (λ o n. absurd n))
-    by-class board =
+    by-class OnBoard =
         checked-sound 1 _ (λ m f.
         put-back (λ k. withCore k b) _ (core-sound (b .core) (r .core) e f)
         (λ k p. record { six = r .six; channels = r .channels; pins = r .pins; virtuals = r .virtuals; core = p })
         (λ k h. ap (λ x. withCore x b) h) (λ k n. absurd n))
-    by-class unknown = refusal 2 b refl r refl
+    by-class Unknown = refusal 2 b refl r refl
 
     pub respond-sound : SoundEvent b e (respond b e)
     unfolding respond respondWith
-    respond-sound = by-class (classOf (e .kind))
+    respond-sound = either (SoundEvent b e) (isStep e) (done (stepped-ranged (e .v) (e .w) b r)) (by-class (classOf (e .kind)))

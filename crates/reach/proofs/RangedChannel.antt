@@ -2,18 +2,18 @@
 -- Assumes nothing.
 use mathlib.Core.Path.{_≡_, refl}
 use mathlib.Core.Bool.{true, cond, true≢false}
-use Prim.Native.Nat.{ℕ, _<_}
-use native.Mathlib.Omega.{arith}
+use Prim.Native.Nat.{ℕ}
 use lib.Dec.{eqb, ltb}
 use Rattle.counter.specs.Mode.{TP, goodMode}
 use Rattle.counter.specs.Setters.{withMode, withRoute, withLost}
 use Rattle.counter.specs.Preload.{allowed, preloaded, started}
+use Rattle.counter.specs.Repair.{isRoute, isReasons}
 use Rattle.counter.specs.declared.Channel.{Channel}
+use Rattle.counter.proofs.Same.{ChannelInRange}
 use Rattle.calls.specs.Reply.{Reply, refuse, accept}
 use Rattle.calls.specs.Fields.{limits, limit, fits}
 use Rattle.calls.specs.ChannelCalls.{modeWrite, routeWrite, maskWrite, snapshotRead, channelCall}
 use Rattle.calls.specs.declared.Event.{Event}
-use Rattle.reach.specs.Range.{ChannelInRange}
 use Rattle.words.proofs.Cases.{tested, either}
 use Rattle.reach.proofs.Fitting.{below-limit, good-mode}
 use Rattle.reach.proofs.Sound.{Sound, refusal, done}
@@ -42,12 +42,12 @@ module _ (c : Channel) (r : ChannelInRange c) where
   mode-sound v g =
       halted-sound (withMode v c) (record { mode = g; route = r .route; mask = r .mask; kept = r .kept; carry = r .carry; places = r .places; reasons = r .reasons; held = r .held })
 
-  route-sound : (v : ℕ) → v < 55 → SoundCall c (routeWrite v c)
+  route-sound : (v : ℕ) → isRoute v ≡ true → SoundCall c (routeWrite v c)
   unfolding routeWrite
   route-sound v b =
       halted-sound (withRoute v c) (record { mode = r .mode; route = b; mask = r .mask; kept = r .kept; carry = r .carry; places = r .places; reasons = r .reasons; held = r .held })
 
-  mask-sound : (v : ℕ) → v < 512 → SoundCall c (maskWrite v c)
+  mask-sound : (v : ℕ) → isReasons v ≡ true → SoundCall c (maskWrite v c)
   mask-sound v b = done (record { mode = r .mode; route = r .route; mask = b; kept = r .kept; carry = r .carry; places = r .places; reasons = r .reasons; held = r .held })
 
   read-sound : SoundCall c (snapshotRead c)
@@ -69,7 +69,7 @@ module _ (c : Channel) (r : ChannelInRange c) where
       tested S (eqb k 5) (λ h. mask-sound (e .v) (below-limit e f 5 h)) (λ _.
       either S (eqb k 6) (done (started-ranged c r))
       (either S (eqb k 7) (done (free r))
-      (either S (eqb k 8) (done (captured-ranged c r (c .count) t 128 (omega arith)))
+      (either S (eqb k 8) (done (captured-ranged c r (c .count) t 128 refl))
       (either S (eqb k 9) (done (preloaded-ranged c r))
       (either S (eqb k 10) (done r)
       (either S (eqb k 11) read-sound

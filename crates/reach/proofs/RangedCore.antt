@@ -5,16 +5,17 @@ use mathlib.Core.Bool.{Bool, true, false, _&&_}
 use Prim.Native.Nat.{ℕ}
 use native.Mathlib.Omega.{arith}
 use lib.Dec.{eqb, ltb}
-use Rattle.control.specs.Clock.{advanced}
+use borrow.Author.Tests.{lt-ltb}
+use Rattle.control.specs.Clock.{prescalerNext, advanced}
 use Rattle.control.specs.Watchdog.{watched, kicked, switched}
 use Rattle.control.specs.Safety.{guarded}
 use Rattle.control.specs.declared.Watchdog.{Watchdog}
 use Rattle.control.specs.declared.Core.{Core}
+use Rattle.control.proofs.Same.{CoreInRange}
 use Rattle.calls.specs.Fields.{limits, limit, fits}
 use Rattle.calls.specs.BoardCalls.{intervalWrite, boardCall}
 use Rattle.calls.specs.declared.Event.{Event}
 use Rattle.board.specs.Step.{coreNext}
-use Rattle.reach.specs.Range.{CoreInRange}
 use Rattle.words.proofs.Cases.{tested, either}
 use Rattle.reach.proofs.Fitting.{below-limit, not-zero}
 use Rattle.reach.proofs.Sound.{Sound, Never, refusal, done}
@@ -64,4 +65,4 @@ module _ (k : Core) (r : CoreInRange k) where
   pub core-ranged : (pin47 : Bool) → CoreInRange (coreNext pin47 k)
   unfolding coreNext advanced guarded
   core-ranged pin47 =
-      record { prescaler = omega arith; interval = rw (watched-timed (k .watchdog) .interval) (r .interval); control = r .control }
+      record { prescaler = lt-ltb (prescalerNext (k .clock .prescaler)) 500_000_000 (omega arith); interval = rw (watched-timed (k .watchdog) .interval) (r .interval); control = r .control }

@@ -2,18 +2,19 @@
 -- Assumes nothing.
 use mathlib.Core.Path.{_≡_}
 use mathlib.Core.Bool.{Bool, true, false, cond}
-use Prim.Native.Nat.{ℕ, _^_, _<_}
+use Prim.Native.Nat.{ℕ, _<_}
 use lib.Dec.{eqb}
+use borrow.Author.Tests.{ltb-true}
 use Rattle.words.specs.Bits.{bit}
-use Rattle.words.proofs.BitLaws.{word-lt, bit-word}
-use Rattle.ports.specs.Pins.{number, pinAt, putPin, sensedWith, driven}
+use Rattle.words.proofs.BitLaws.{bit-word}
+use Rattle.ports.specs.Pins.{number, pinAt, putPin, sensed, isSource, driven, isPinWord}
 use Rattle.ports.specs.declared.Pin.{Pin}
 use Rattle.ports.specs.declared.Pins.{Pins}
 use Rattle.ports.proofs.Planes.{held}
+use Rattle.ports.proofs.Same.{PinsInRange, pin-word}
 use Rattle.calls.specs.Fields.{limits, limit, fits}
 use Rattle.calls.specs.PinCalls.{pinCall}
 use Rattle.calls.specs.declared.Event.{Event}
-use Rattle.reach.specs.Range.{PinsInRange}
 use Rattle.words.proofs.Cases.{tested, either}
 use Rattle.reach.proofs.Fitting.{below-limit}
 use Rattle.reach.proofs.Sound.{Sound, Never, done}
@@ -21,7 +22,7 @@ use Rattle.reach.proofs.Sound.{Sound, Never, done}
 -- ---- one pin
 
 pub record PinInRange (q : Pin) : Type 0 where
-  pub source : q .source < 7
+  pub source : isSource (q .source) ≡ true
 
 pub pin-sound : (q : Pin) → PinInRange q → (writes : Bool) (e : Event) → fits e ≡ true → Sound PinInRange Never Never (pinCall writes e q)
 unfolding pinCall limit limits
@@ -37,7 +38,7 @@ pin-sound q r writes e f =
 -- ---- all pins
 
 -- the levels and the driven values may be any 48 bits
-free : {x : Pins} {level driven : ℕ} → PinsInRange x → level < 2 ^ 48 → driven < 2 ^ 48
+free : {x : Pins} {level driven : ℕ} → PinsInRange x → isPinWord level ≡ true → isPinWord driven ≡ true
     → PinsInRange (record {
       level = level;
       driven = driven;
@@ -62,10 +63,10 @@ free r l d = record {
 }
 
 -- a source number in its range, or pin i's, is in range as it is held
-chosen : (t : Bool) (n : ℕ) (x : Pins) (i : ℕ) → n < 7 → pinAt x i .source < 7
-    → number (cond t (bit n 0) (bit (x .source0) i)) (cond t (bit n 1) (bit (x .source1) i)) (cond t (bit n 2) (bit (x .source2) i)) < 7
+chosen : (t : Bool) (n : ℕ) (x : Pins) (i : ℕ) → isSource n ≡ true → isSource (pinAt x i .source) ≡ true
+    → isSource (number (cond t (bit n 0) (bit (x .source0) i)) (cond t (bit n 1) (bit (x .source1) i)) (cond t (bit n 2) (bit (x .source2) i))) ≡ true
 unfolding pinAt
-chosen true n x i h k = rw (held n h) h
+chosen true n x i h k = rw (held n (ltb-true n 7 h)) h
 chosen false n x i h k = k
 
 module _ (x : Pins) (r : PinsInRange x) where
@@ -75,21 +76,21 @@ module _ (x : Pins) (r : PinsInRange x) where
   pub put-pin-ranged : (p : ℕ) (q : Pin) → PinInRange q → PinsInRange (putPin p q x)
   unfolding pinAt putPin
   put-pin-ranged p q s = record {
-    level = word-lt 48 _;
-    driven = word-lt 48 _;
-    own = word-lt 48 _;
-    safedata = word-lt 48 _;
-    safeenable = word-lt 48 _;
-    source0 = word-lt 48 _;
-    source1 = word-lt 48 _;
-    source2 = word-lt 48 _;
+    level = pin-word _;
+    driven = pin-word _;
+    own = pin-word _;
+    safedata = pin-word _;
+    safeenable = pin-word _;
+    source0 = pin-word _;
+    source1 = pin-word _;
+    source2 = pin-word _;
     source = λ i h. simp bit-word (chosen (eqb i p) (q .source) x i (s .source) (r .source i h));
   }
 
-  pub sensed-ranged : (level : Pins → ℕ → ℕ → Bool) (w : ℕ) → PinsInRange (sensedWith level w x)
-  unfolding sensedWith
-  sensed-ranged level w = free r (word-lt 48 _) (r .driven)
+  pub sensed-ranged : (w : ℕ) → PinsInRange (sensed w x)
+  unfolding sensed
+  sensed-ranged w = free r (pin-word _) (r .driven)
 
   pub driven-ranged : (outs : ℕ) (safemode : Bool) → PinsInRange (driven outs safemode x)
   unfolding driven
-  driven-ranged outs safemode = free r (r .level) (word-lt 48 _)
+  driven-ranged outs safemode = free r (r .level) (pin-word _)

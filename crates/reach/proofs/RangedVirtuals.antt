@@ -3,13 +3,12 @@
 use mathlib.Core.Bool.{Bool}
 use Prim.Native.Nat.{ℕ}
 use lib.Dec.{eqb}
-use Rattle.words.proofs.BitLaws.{word-lt}
 use Rattle.ports.specs.Virtuals.{putVirtual}
 use Rattle.ports.specs.declared.Virtual.{Virtual}
 use Rattle.ports.specs.declared.Virtuals.{Virtuals}
+use Rattle.ports.proofs.Same.{VirtualsInRange, output-word}
 use Rattle.calls.specs.VirtualCalls.{virtualCall}
 use Rattle.calls.specs.declared.Event.{Event}
-use Rattle.reach.specs.Range.{VirtualsInRange}
 use Rattle.words.proofs.Cases.{either}
 use Rattle.reach.proofs.Sound.{Sound, Never, done}
 
@@ -22,4 +21,4 @@ virtual-sound writes e o =
 
 pub put-virtual-ranged : (o : ℕ) (q : Virtual) (x : Virtuals) → VirtualsInRange (putVirtual o q x)
 unfolding putVirtual
-put-virtual-ranged o q x = record { own = word-lt 6 _; safedata = word-lt 6 _; safeenable = word-lt 6 _ }
+put-virtual-ranged o q x = record { own = output-word _; safedata = output-word _; safeenable = output-word _ }

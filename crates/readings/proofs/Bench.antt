@@ -9,7 +9,7 @@ use Rattle.counter.specs.Difference.{clocked, errs}
 use Rattle.counter.specs.Preload.{preloaded, started}
 use Rattle.counter.specs.Queue.{captured, popped}
 use Rattle.counter.specs.Repair.{resetChannel}
-use Rattle.ports.specs.Pins.{pinAt, putPin, pinLevel, sensedWith, driven, resetPins}
+use Rattle.ports.specs.Pins.{pinAt, putPin, pinLevel, sensed, driven, resetPins}
 use Rattle.ports.specs.Virtuals.{virtualAt, putVirtual, virtualLevels, resetVirtuals, routed}
 use Rattle.control.specs.Clock.{advanced, ticks}
 use Rattle.control.specs.Safety.{guarded}
@@ -17,16 +17,16 @@ use Rattle.control.specs.Watchdog.{watched, kicked, switched}
 use Rattle.control.specs.Whole.{resetCore}
 use Rattle.calls.specs.BoardCalls.{intervalWrite, boardCall}
 use Rattle.calls.specs.ChannelCalls.{modeWrite, registerWrite, routeWrite, snapshotRead, channelCall}
-use Rattle.calls.specs.Fields.{limits, limit, fits}
+use Rattle.calls.specs.Fields.{stepFits, limits, limit, fits}
 use Rattle.calls.specs.PinCalls.{pinCall}
 use Rattle.calls.specs.VirtualCalls.{virtualCall}
 use Rattle.board.specs.Handed.{resetBoard}
 use Rattle.board.specs.Inputs.{extouts, indexOf, samplesOf, inputsOf, channelNext, allNext}
-use Rattle.board.specs.Respond.{refusalIn, refusalBy, acceptedBy, respondBy, respondWith, respond}
-use Rattle.board.specs.Runs.{finish}
+use Rattle.board.specs.Respond.{refusalIn, refusalBy, passedBy, calledBy, respondWith, respond}
+use Rattle.board.specs.Runs.{finish, replies}
 use Rattle.board.specs.Step.{sceneOf, coreNext, stepWith, stepped}
-use Rattle.readings.specs.Readings.{preload1, steps, traced, seen, read, delay, cascade, turn, error, seventeen, pulses, table}
+use Rattle.readings.specs.Readings.{preload1, steps, traced, extoutsIn, answersIn, seen, read, delay, cascade, turn, error, seventeen, entries, pulses, table}
 
 pub readings : map read table ≡ map (λ r. r .numbers) table
-unfolding bit word some tab edgeReasons look counted masked asked loaded nextOf settled step advance clocked errs preloaded started captured popped resetChannel pinAt putPin pinLevel sensedWith driven resetPins virtualAt putVirtual virtualLevels resetVirtuals routed advanced ticks guarded watched kicked switched resetCore intervalWrite boardCall modeWrite registerWrite routeWrite snapshotRead channelCall limits limit fits pinCall virtualCall resetBoard extouts indexOf samplesOf inputsOf channelNext allNext refusalIn refusalBy acceptedBy respondBy respondWith respond finish sceneOf coreNext stepWith stepped preload1 steps traced seen read delay cascade turn error seventeen pulses table
+unfolding bit word some tab edgeReasons look counted masked asked loaded nextOf settled step advance clocked errs preloaded started captured popped resetChannel pinAt putPin pinLevel sensed driven resetPins virtualAt putVirtual virtualLevels resetVirtuals routed advanced ticks guarded watched kicked switched resetCore intervalWrite boardCall modeWrite registerWrite routeWrite snapshotRead channelCall stepFits limits limit fits pinCall virtualCall resetBoard extouts indexOf samplesOf inputsOf channelNext allNext refusalIn refusalBy passedBy calledBy respondWith respond finish replies sceneOf coreNext stepWith stepped preload1 steps traced extoutsIn answersIn seen read delay cascade turn error seventeen entries pulses table
 readings = refl

@@ -1,16 +1,17 @@
 -- Document 01, "Bench readings", a to j: lists of events from reset, what is then looked at, and the numbers that are read.
 -- Assumes nothing.
 use mathlib.Core.List.{List, [], _∷_, _++_, map}
-use Prim.Native.Nat.{ℕ}
+use Prim.Native.Nat.{ℕ, zero, suc}
 use lib.ListN.{replicate}
 use Rattle.words.specs.Bits.{flag}
 use Rattle.calls.specs.Events.{call, lines}
 use Rattle.calls.specs.declared.Event.{Event}
 use Rattle.calls.specs.declared.Answer.{Answer}
+use Rattle.calls.specs.Reply.{Reply}
 use Rattle.board.specs.Inputs.{channelIn}
 use Rattle.board.specs.Respond.{respond}
 use Rattle.board.specs.Handed.{resetBoard}
-use Rattle.board.specs.Runs.{finish}
+use Rattle.board.specs.Runs.{finish, replies}
 use Rattle.board.specs.declared.Board.{Board}
 
 -- ---- events
@@ -32,17 +33,31 @@ traced l = map (λ v. lines v 0) l
 pub data Look : Type 0 where
   -- a channel's count
   count : ℕ → Look
-  -- a channel's ExtOut
-  extout : ℕ → Look
-  -- the four numbers of the answer to one event more
-  answer : Event → Look
+  -- a channel's ExtOut after each of further events
+  extouts : ℕ → List Event → Look
+  -- the four numbers of the answer to each of further events
+  answers : List Event → Look
+
+-- the answer to one event more
+abbrev pub answer : Event → Look
+answer e = answers (e ∷ [])
+
+-- a channel's ExtOut in each of the boards
+unfoldable pub extoutsIn : ℕ → List (Reply Board) → List ℕ
+extoutsIn c [] = []
+extoutsIn c (r ∷ rs) = flag (channelIn (r .state .channels) c .extout) ∷ extoutsIn c rs
+
+-- the numbers of all answers in a row
+unfoldable pub answersIn : List (Reply Board) → List ℕ
+answersIn [] = []
+answersIn (r ∷ rs) =
+    let a : Answer = r .answer in
+    a .result ∷ a .value ∷ a .timestamp ∷ a .reason ∷ answersIn rs
 
 unfoldable pub seen : Board → Look → List ℕ
 seen b (count c) = channelIn (b .channels) c .count ∷ []
-seen b (extout c) = flag (channelIn (b .channels) c .extout) ∷ []
-seen b (answer e) =
-    let a : Answer = respond b e .answer in
-    a .result ∷ a .value ∷ a .timestamp ∷ a .reason ∷ []
+seen b (extouts c es) = extoutsIn c (replies respond b es)
+seen b (answers es) = answersIn (replies respond b es)
 
 pub record Reading : Type 0 where
   pub events : List Event
@@ -78,6 +93,11 @@ error = call 1 0 0x70 ∷ call 5 0 256 ∷ call 6 0 0 ∷ traced (3 ∷ [])
 unfoldable pub seventeen : List Event
 seventeen = replicate 17 (call 8 0 0)
 
+-- g: the answers to reads of n of their captures
+unfoldable pub entries : ℕ → List ℕ
+entries zero = []
+entries (suc n) = 0 ∷ 0 ∷ 0 ∷ 128 ∷ entries n
+
 -- h: channel 0 in mode 0x01682030 with preloads 2 and 3, started
 unfoldable pub pulses : List Event
 pulses = call 1 0 0x01682030 ∷ call 2 0 2 ∷ preload1 0 3 ∷ call 6 0 0 ∷ []
@@ -88,10 +108,9 @@ unfoldable pub table : List Reading
 table =
     -- a
     reading (delay ++ steps 50) (count 0) (2 ∷ [])
-    ∷ reading (delay ++ steps 149) (extout 0) (1 ∷ [])
     ∷ reading (delay ++ steps 149) (answer (call 11 0 0)) (5 ∷ 0 ∷ 0 ∷ 0 ∷ [])
     ∷ reading (delay ++ steps 150) (answer (call 11 0 0)) (0 ∷ 0 ∷ 3 ∷ 4 ∷ [])
-    ∷ reading (delay ++ steps 150) (extout 0) (0 ∷ [])
+    ∷ reading delay (extouts 0 (steps 150)) (replicate 149 1 ++ (0 ∷ []))
     -- b
     ∷ reading (delay ++ steps 200) (count 0) (0 ∷ [])
     -- c
@@ -108,18 +127,9 @@ table =
     ∷ reading error (count 0) (0 ∷ [])
     ∷ reading error (answer (call 11 0 0)) (0 ∷ 0 ∷ 0 ∷ 256 ∷ [])
     -- g
-    ∷ reading seventeen (answer (call 11 0 0)) (6 ∷ 1 ∷ 0 ∷ 0 ∷ [])
-    ∷ reading (seventeen ++ replicate 1 (call 11 0 0)) (answer (call 11 0 0)) (0 ∷ 0 ∷ 0 ∷ 128 ∷ [])
-    ∷ reading (seventeen ++ replicate 16 (call 11 0 0)) (answer (call 11 0 0)) (0 ∷ 0 ∷ 0 ∷ 128 ∷ [])
-    ∷ reading (seventeen ++ replicate 17 (call 11 0 0)) (answer (call 11 0 0)) (5 ∷ 0 ∷ 0 ∷ 0 ∷ [])
+    ∷ reading seventeen (answers (replicate 18 (call 11 0 0))) (6 ∷ 1 ∷ 0 ∷ 0 ∷ entries 16 ++ (5 ∷ 0 ∷ 0 ∷ 0 ∷ []))
     -- h
-    ∷ reading (pulses ++ steps 1) (extout 0) (1 ∷ [])
-    ∷ reading (pulses ++ steps 2) (extout 0) (0 ∷ [])
-    ∷ reading (pulses ++ steps 3) (extout 0) (0 ∷ [])
-    ∷ reading (pulses ++ steps 4) (extout 0) (0 ∷ [])
-    ∷ reading (pulses ++ steps 5) (extout 0) (1 ∷ [])
-    ∷ reading (pulses ++ steps 6) (extout 0) (1 ∷ [])
-    ∷ reading (pulses ++ steps 7) (extout 0) (0 ∷ [])
+    ∷ reading pulses (extouts 0 (steps 7)) (1 ∷ 0 ∷ 0 ∷ 0 ∷ 1 ∷ 1 ∷ 0 ∷ [])
     -- i
     ∷ reading (cascade 5 0 ++ steps 1) (count 0) (0 ∷ [])
     ∷ reading (cascade 5 0 ++ steps 2) (count 0) (1 ∷ [])

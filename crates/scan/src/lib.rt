@@ -41,9 +41,9 @@ fn is_between(words: bool, b: u8) -> bool
 // The place behind the part that starts at `at`: of a separator or of the end.
 pub fn part_end(text: &[u8], at: usize, words: bool) -> usize
     requires { ⌜ at ≤ length (now text) ⌝ }
-    ensures { λ r. ⌜ at ≤ r ⌝ }
-    ensures { λ r. ⌜ r ≤ length (now (text .entry)) ⌝ }
-    ensures { λ r. ⌜ partsFrom (between words) (now (text .entry)) at ≡ take (r - at) (drop at (now (text .entry))) ∷ partsFrom (between words) (now (text .entry)) (r + 1) ⌝ }
+    ensures after { λ r. ⌜ at ≤ r ⌝ }
+    ensures within { λ r. ⌜ r ≤ length (now (text .entry)) ⌝ }
+    ensures parts { λ r. ⌜ partsFrom (between words) (now (text .entry)) at ≡ take (r - at) (drop at (now (text .entry))) ∷ partsFrom (between words) (now (text .entry)) (r + 1) ⌝ }
 {
     let mut i = at;
     while i < text.len() {
@@ -58,8 +58,8 @@ pub fn part_end(text: &[u8], at: usize, words: bool) -> usize
 
 // How many bytes stand before the first m.
 pub fn before(text: &[u8], m: u8) -> usize
-    ensures { λ r. ⌜ r ≤ length (now (text .entry)) ⌝ }
-    ensures { λ r. ⌜ take r (now (text .entry)) ≡ before m (now (text .entry)) ⌝ }
+    ensures within { λ r. ⌜ r ≤ length (now (text .entry)) ⌝ }
+    ensures front { λ r. ⌜ take r (now (text .entry)) ≡ before m (now (text .entry)) ⌝ }
 {
     let mut i: usize = 0;
     while i < text.len() {

@@ -4,14 +4,20 @@
 // 0, d3 for the driven value of pin 3, p3 for its level, and behind it the steps, counted from 1,
 // after which it is high: `x0 3-8 13`. A line that starts with # is a comment there. Each name is
 // repeated with the number of answers and of levels that agree; a difference is told with the files,
-// the lines, what was expected and what came.
+// the lines, what was expected and what came. A file that cannot be read, or is longer than there is
+// room for, is told in place of a run. What fails on standard input or output is told on standard
+// error and ends the program.
 ghost use mathlib.Core.Path.{_≡_};
 ghost use Prim.Native.Nat.{_+_, _<_, _≤_};
 ghost use lib.ListN.{length};
 use board::Board;
 use calls::Event;
-use libc::STDIN_FILENO;
-use libc::STDOUT_FILENO;
+use libc::EACCES;
+use libc::EFBIG;
+use libc::EISDIR;
+use libc::ENAMETOOLONG;
+use libc::ENOENT;
+use streams::File;
 use textin::Text;
 
 // The number of channels.
@@ -20,8 +26,11 @@ const CHANNELS: u64 = board::CHANNELS as u64;
 // The size of all buffers.
 const SIZE: usize = 65536;
 
+// The digits of the largest number.
+const DIGITS: usize = 20;
+
 // The room of a byte and a number.
-const SPAN: usize = 21;
+const SPAN: usize = DIGITS + 1;
 
 // Where the log stands: the place behind the lines that agreed, how many these are, the length of
 // the line that came last, and whether it differed.
@@ -60,35 +69,81 @@ struct Watch {
     spans: Spans,
 }
 
-// Prints a text.
-fn say(what: &[u8]) {
-    io::write_all(STDOUT_FILENO, what);
+// Prints a text while standard output is open, which it is until a write fails.
+fn say(open: &mut bool, what: &[u8]) {
+    if *open {
+        *open = streams::print(b"scenarios", what);
+    }
 }
 
 // Prints a number in decimal.
-fn say_number(n: u64) {
-    io::print_decimal(STDOUT_FILENO, n);
+fn say_number(open: &mut bool, n: u64) {
+    let mut digits = [0u8; DIGITS];
+    let k = io::decimal(n, &mut digits);
+    say(open, &digits[..k]);
 }
 
 // A line that was expected or that came; an empty one is none.
-fn show(what: &[u8], line: &[u8]) {
-    say(what);
+fn show(open: &mut bool, what: &[u8], line: &[u8]) {
+    say(open, what);
     if line.len() == 0 {
-        say(b"nothing");
+        say(open, b"nothing");
     } else {
-        say(line);
+        say(open, line);
     }
-    say(b"\n");
+    say(open, b"\n");
 }
 
 // The line of a text that starts at `at`, without its line feed; an empty one past the end.
-fn show_line(what: &[u8], text: &[u8], at: usize) {
+fn show_line(open: &mut bool, what: &[u8], text: &[u8], at: usize) {
     if at > text.len() {
-        show(what, b"");
+        show(open, what, b"");
         return;
     }
     let to = scan::part_end(text, at, false);
-    show(what, &text[at..to]);
+    show(open, what, &text[at..to]);
+}
+
+// Tells what a limit is for, and the limit.
+fn tell_limit(open: &mut bool, what: &[u8], limit: usize) {
+    say(open, what);
+    say_number(open, limit as u64);
+    say(open, b" bytes\n");
+}
+
+// Tells why a file was not read whole.
+fn tell_file(open: &mut bool, name: &[u8], ending: &[u8], error: i32) {
+    say(open, name);
+    say(open, ending);
+    if error == EFBIG {
+        tell_limit(open, b" has more than ", SIZE);
+    } else if error == ENAMETOOLONG {
+        tell_limit(open, b" is a name of more than ", streams::PATH);
+    } else if error == ENOENT {
+        say(open, b" is missing\n");
+    } else if error == EISDIR {
+        say(open, b" is a folder\n");
+    } else if error == EACCES {
+        say(open, b" may not be read\n");
+    } else {
+        say(open, b" cannot be read\n");
+    }
+}
+
+// Reads a file of a history. If it is not read whole, that is told, unless it is missing and not
+// needed, which is an empty file.
+fn load(open: &mut bool, name: &[u8], ending: &[u8], needed: bool, buf: &mut [u8]) -> File
+    ensures { λ r. ⌜ r .count ≤ length (now (buf .exit)) ⌝ }
+{
+    let f = streams::load(name, ending, buf);
+    if f.error == 0 {
+        return f;
+    }
+    if !needed & (f.error == ENOENT) {
+        return File { count: 0, error: 0 };
+    }
+    tell_file(open, name, ending, f.error);
+    f
 }
 
 // Whether the bytes of text from place `at` on start with a line.
@@ -107,8 +162,8 @@ fn goes_on(text: &[u8], at: usize, line: &[u8]) -> bool {
 fn compared(l: Log, line: &[u8], log: &[u8]) -> Log
     requires { ⌜ l .at ≤ 65536 ⌝ }
     requires { ⌜ length (now log) ≤ 65536 ⌝ }
-    ensures { λ r. ⌜ r .at ≤ 65536 ⌝ }
-    ensures { λ r. ⌜ r .came ≡ length (now (line .entry)) ⌝ }
+    ensures place { λ r. ⌜ r .at ≤ 65536 ⌝ }
+    ensures came { λ r. ⌜ r .came ≡ length (now (line .entry)) ⌝ }
 {
     let n = line.len();
     let at = l.at;
@@ -143,8 +198,8 @@ fn send(c: Course, e: Event, log: &[u8], line: &mut [u8]) -> Course
     requires { ⌜ c .log .at ≤ 65536 ⌝ }
     requires { ⌜ length (now log) ≤ 65536 ⌝ }
     requires { ⌜ length (now line) ≡ 126 ⌝ }
-    ensures { λ r. ⌜ r .log .at ≤ 65536 ⌝ }
-    ensures { λ r. ⌜ r .log .came ≤ 126 ⌝ }
+    ensures place { λ r. ⌜ r .log .at ≤ 65536 ⌝ }
+    ensures came { λ r. ⌜ r .log .came ≤ 126 ⌝ }
 {
     let o = board::apply(c.board, e);
     let n = log::put_line(line, 0, c.events, e.kind, o.answer);
@@ -163,8 +218,8 @@ fn send_times(c: Course, e: Event, times: u32, log: &[u8], line: &mut [u8]) -> C
     requires { ⌜ c .log .came ≤ 126 ⌝ }
     requires { ⌜ length (now log) ≤ 65536 ⌝ }
     requires { ⌜ length (now line) ≡ 126 ⌝ }
-    ensures { λ r. ⌜ r .log .at ≤ 65536 ⌝ }
-    ensures { λ r. ⌜ r .log .came ≤ 126 ⌝ }
+    ensures place { λ r. ⌜ r .log .at ≤ 65536 ⌝ }
+    ensures came { λ r. ⌜ r .log .came ≤ 126 ⌝ }
 {
     let mut next = c;
     let mut i: u32 = 0;
@@ -179,27 +234,27 @@ fn send_times(c: Course, e: Event, times: u32, log: &[u8], line: &mut [u8]) -> C
 }
 
 // Tells a bad line of a text.
-fn tell_bad(name: &[u8], t: Text) {
-    say(name);
-    say(b": line ");
-    say_number(t.lines);
-    say(b" of the text is bad, wanted ");
-    say_number(t.wanted as u64);
-    say(b"\n");
+fn tell_bad(open: &mut bool, name: &[u8], t: Text) {
+    say(open, name);
+    say(open, b": line ");
+    say_number(open, t.lines);
+    say(open, b" of the text is bad, wanted ");
+    say_number(open, t.wanted as u64);
+    say(open, b"\n");
 }
 
 // Tells where a log differs.
-fn tell_answer(name: &[u8], t: Text, l: Log, log: &[u8], line: &[u8])
+fn tell_answer(open: &mut bool, name: &[u8], t: Text, l: Log, log: &[u8], line: &[u8])
     requires { ⌜ l .at ≤ 65536 ⌝ }
 {
-    say(name);
-    say(b".log line ");
-    say_number(std::num::wrapping_add_u64(l.lines, 1));
-    say(b", at line ");
-    say_number(t.lines);
-    say(b" of the text\n");
-    show_line(b"  expected ", log, l.at);
-    show_line(b"  came     ", line, 0);
+    say(open, name);
+    say(open, b".log line ");
+    say_number(open, std::num::wrapping_add_u64(l.lines, 1));
+    say(open, b", at line ");
+    say_number(open, t.lines);
+    say(open, b" of the text\n");
+    show_line(open, b"  expected ", log, l.at);
+    show_line(open, b"  came     ", line, 0);
 }
 
 // A text before its first line.
@@ -213,8 +268,8 @@ fn no_text() -> Text {
 
 // The board and the log before the first event.
 fn start() -> Course
-    ensures { λ r. ⌜ r .log .at ≡ 0 ⌝ }
-    ensures { λ r. ⌜ r .log .came ≡ 0 ⌝ }
+    ensures place { λ r. ⌜ r .log .at ≡ 0 ⌝ }
+    ensures came { λ r. ⌜ r .log .came ≡ 0 ⌝ }
 {
     Course {
         board: board::reset(),
@@ -229,7 +284,7 @@ fn start() -> Course
 }
 
 // Runs a text and compares its answers with the log. The answer is whether all agree.
-fn run_answers(name: &[u8], text: &[u8], log: &[u8]) -> bool
+fn run_answers(open: &mut bool, name: &[u8], text: &[u8], log: &[u8]) -> bool
     requires { ⌜ length (now log) ≤ 65536 ⌝ }
 {
     let mut line = [0u8; 126];
@@ -241,26 +296,26 @@ fn run_answers(name: &[u8], text: &[u8], log: &[u8]) -> bool
         let added = textin::add_line(t, &text[from..to]);
         t = added.text;
         if t.wanted != 0 {
-            tell_bad(name, t);
+            tell_bad(open, name, t);
             return false;
         }
         let said = added.line;
         c = send_times(c, said.event, said.times, log, &mut line);
         if c.log.wrong {
             let n = c.log.came;
-            tell_answer(name, t, c.log, log, &line[..n]);
+            tell_answer(open, name, t, c.log, log, &line[..n]);
             return false;
         }
         from = to + 1;
     }
     if c.log.at < log.len() {
-        tell_answer(name, t, c.log, log, b"");
+        tell_answer(open, name, t, c.log, log, b"");
         return false;
     }
-    say(name);
-    say(b": ");
-    say_number(c.log.lines);
-    say(b" answers");
+    say(open, name);
+    say(open, b": ");
+    say_number(open, c.log.lines);
+    say(open, b" answers");
     true
 }
 
@@ -288,14 +343,14 @@ fn look(b: Board, o: Output) -> bool {
     words::bit(b.pins.level, o.number)
 }
 
-// A byte and a number, if there is room for them.
+// A byte and a number. The answer is SIZE where there is no room for them, and then stays so.
 fn put_step(out: &mut [u8], at: usize, b: u8, n: u64) -> usize
     requires { ⌜ length (now out) ≡ 65536 ⌝ }
     requires { ⌜ at ≤ 65536 ⌝ }
     ensures { λ r. ⌜ r ≤ 65536 ⌝ }
 {
     if at > SIZE - SPAN {
-        return at;
+        return SIZE;
     }
     let next = text::put_byte(out, at, b);
     text::put_decimal(out, next, n)
@@ -404,7 +459,7 @@ fn watch_times(w: Watch, e: Event, times: u32, o: Output, out: &mut [u8]) -> Wat
 }
 
 // Runs a text, and writes the spans in which an output is high behind place `at` of out. The answer
-// is the place behind them.
+// is the place behind them, SIZE where there is no room for all.
 fn watch_text(text: &[u8], o: Output, out: &mut [u8], at: usize) -> usize
     requires { ⌜ length (now out) ≡ 65536 ⌝ }
     requires { ⌜ at ≤ 65536 ⌝ }
@@ -463,33 +518,44 @@ fn output_of(line: &[u8]) -> Output {
 }
 
 // Tells where the levels differ.
-fn tell_level(name: &[u8], number: u64, line: &[u8], came: &[u8]) {
-    say(b"\n");
-    say(name);
-    say(b".levels line ");
-    say_number(number);
-    say(b"\n");
-    show(b"  expected ", line);
-    show(b"  came     ", came);
+fn tell_level(open: &mut bool, name: &[u8], number: u64, line: &[u8], came: &[u8]) {
+    say(open, b"\n");
+    say(open, name);
+    say(open, b".levels line ");
+    say_number(open, number);
+    say(open, b"\n");
+    show(open, b"  expected ", line);
+    show(open, b"  came     ", came);
 }
 
 // Whether a line of the levels agrees with the run; else the difference is told.
-fn run_level(name: &[u8], number: u64, text: &[u8], line: &[u8], out: &mut [u8]) -> bool
+fn run_level(
+    open: &mut bool,
+    name: &[u8],
+    number: u64,
+    text: &[u8],
+    line: &[u8],
+    out: &mut [u8],
+) -> bool
     requires { ⌜ length (now out) ≡ 65536 ⌝ }
     requires { ⌜ length (now line) ≤ 65536 ⌝ }
 {
     let o = output_of(line);
     if o.letter == 0 {
-        tell_level(name, number, line, b"no such output");
+        tell_level(open, name, number, line, b"no such output");
         return false;
     }
     let word = scan::part_end(line, 0, true);
     buffers::copy_to(&line[..word], out, 0);
     let n = watch_text(text, o, out, word);
+    if n == SIZE {
+        tell_level(open, name, number, line, b"more spans than fit 65536 bytes");
+        return false;
+    }
     if scan::same(line, &out[..n]) {
         return true;
     }
-    tell_level(name, number, line, &out[..n]);
+    tell_level(open, name, number, line, &out[..n]);
     false
 }
 
@@ -502,7 +568,7 @@ fn is_level(line: &[u8]) -> bool {
 }
 
 // Looks at all outputs that the levels name, and tells how many agree.
-fn look_all(name: &[u8], text: &[u8], levels: &[u8], out: &mut [u8])
+fn look_all(open: &mut bool, name: &[u8], text: &[u8], levels: &[u8], out: &mut [u8])
     requires { ⌜ length (now out) ≡ 65536 ⌝ }
     requires { ⌜ length (now levels) ≤ 65536 ⌝ }
 {
@@ -513,61 +579,95 @@ fn look_all(name: &[u8], text: &[u8], levels: &[u8], out: &mut [u8])
         let to = scan::part_end(levels, from, false);
         number = std::num::wrapping_add_u64(number, 1);
         if is_level(&levels[from..to]) {
-            if !run_level(name, number, text, &levels[from..to], out) {
+            if !run_level(open, name, number, text, &levels[from..to], out) {
                 return;
             }
             good = std::num::wrapping_add_u64(good, 1);
         }
         from = to + 1;
     }
-    say(b", ");
-    say_number(good);
-    say(b" levels\n");
+    say(open, b", ");
+    say_number(open, good);
+    say(open, b" levels\n");
 }
 
-// Looks at the outputs of a history; where it has no levels, there are none.
-fn run_levels(name: &[u8], text: &[u8], levels: &mut [u8], out: &mut [u8])
-    requires { ⌜ length (now levels) ≡ 65536 ⌝ }
+// Runs a history, and compares its answers and then its levels.
+fn compare(open: &mut bool, name: &[u8], text: &[u8], log: &[u8], levels: &[u8], out: &mut [u8])
+    requires { ⌜ length (now log) ≤ 65536 ⌝ }
+    requires { ⌜ length (now levels) ≤ 65536 ⌝ }
     requires { ⌜ length (now out) ≡ 65536 ⌝ }
 {
-    let v = streams::load(name, b".levels", levels);
-    let n = v.count;
-    look_all(name, text, &levels[..n], out);
+    if run_answers(open, name, text, log) {
+        look_all(open, name, text, levels, out);
+    }
 }
 
-// Runs one history.
-fn run(name: &[u8], text: &mut [u8], log: &mut [u8], levels: &mut [u8], out: &mut [u8])
+// Reads the files of one history, and runs it if all are read.
+fn run(
+    open: &mut bool,
+    name: &[u8],
+    text: &mut [u8],
+    log: &mut [u8],
+    levels: &mut [u8],
+    out: &mut [u8],
+)
     requires { ⌜ length (now text) ≡ 65536 ⌝ }
     requires { ⌜ length (now log) ≡ 65536 ⌝ }
     requires { ⌜ length (now levels) ≡ 65536 ⌝ }
     requires { ⌜ length (now out) ≡ 65536 ⌝ }
 {
-    let t = streams::load(name, b".txt", text);
-    let l = streams::load(name, b".log", log);
-    if t.failed | l.failed {
-        say(name);
-        say(b": no text or no log\n");
+    let t = load(open, name, b".txt", true, text);
+    if t.error != 0 {
+        return;
+    }
+    let l = load(open, name, b".log", true, log);
+    if l.error != 0 {
+        return;
+    }
+    let v = load(open, name, b".levels", false, levels);
+    if v.error != 0 {
         return;
     }
     let nt = t.count;
     let nl = l.count;
-    if run_answers(name, &text[..nt], &log[..nl]) {
-        run_levels(name, &text[..nt], levels, out);
+    let nv = v.count;
+    compare(open, name, &text[..nt], &log[..nl], &levels[..nv], out);
+}
+
+// Runs every history of a list, as long as standard output takes what is said.
+fn run_all(list: &[u8], text: &mut [u8], log: &mut [u8], levels: &mut [u8], out: &mut [u8])
+    requires { ⌜ length (now list) ≤ 65536 ⌝ }
+    requires { ⌜ length (now text) ≡ 65536 ⌝ }
+    requires { ⌜ length (now log) ≡ 65536 ⌝ }
+    requires { ⌜ length (now levels) ≡ 65536 ⌝ }
+    requires { ⌜ length (now out) ≡ 65536 ⌝ }
+{
+    let mut open = true;
+    let mut from: usize = 0;
+    while from < list.len() {
+        let to = scan::part_end(list, from, false);
+        run(&mut open, &list[from..to], text, log, levels, out);
+        if !open {
+            return;
+        }
+        from = to + 1;
     }
 }
 
 // Runs every history that standard input names.
 fn main() {
+    if !streams::is_ready(b"scenarios") {
+        return;
+    }
     let mut list = io::large_buffer();
     let mut text = io::large_buffer();
     let mut log = io::large_buffer();
     let mut levels = io::large_buffer();
     let mut out = io::large_buffer();
-    let n = io::read_full(STDIN_FILENO, &mut list);
-    let mut from: usize = 0;
-    while from < n {
-        let to = scan::part_end(&list[..n], from, false);
-        run(&list[from..to], &mut text, &mut log, &mut levels, &mut out);
-        from = to + 1;
+    let got = streams::read_all(b"scenarios", &mut list);
+    if got.failed {
+        return;
     }
+    let n = got.count;
+    run_all(&list[..n], &mut text, &mut log, &mut levels, &mut out);
 }

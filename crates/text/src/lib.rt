@@ -44,8 +44,8 @@ pub fn put_byte(out: &mut [u8], at: usize, b: u8) -> usize
 // A number in decimal and the byte b behind it.
 pub fn put_entry(out: &mut [u8], at: usize, v: u64, b: u8) -> usize
     requires { ⌜ at + 21 ≤ length (now out) ⌝ }
-    ensures { λ r. ⌜ r ≤ at + 21 ⌝ }
-    ensures { λ r. ⌜ (r ≡ at + length (entry v b)) × (now (out .exit) ≡ put (now (out .entry)) at (entry v b)) ⌝ }
+    ensures within { λ r. ⌜ r ≤ at + 21 ⌝ }
+    ensures wrote { λ r. ⌜ (r ≡ at + length (entry v b)) × (now (out .exit) ≡ put (now (out .entry)) at (entry v b)) ⌝ }
 {
     let a = put_decimal(out, at, v);
     put_byte(out, a, b)

@@ -40,8 +40,8 @@ fn wanted_in(count: u64, size: usize, line: Line) -> u32
 
 // One line more.
 pub fn add_line(t: Text, l: &[u8]) -> Added
-    ensures { λ r. ⌜ r .text ≡ addLine t (now (l .entry)) ⌝ }
-    ensures { λ r. ⌜ r .line ≡ lineOf (now (l .entry)) ⌝ }
+    ensures text { λ r. ⌜ r .text ≡ addLine t (now (l .entry)) ⌝ }
+    ensures line { λ r. ⌜ r .line ≡ lineOf (now (l .entry)) ⌝ }
 {
     let line = reader::read_line(l);
     if t.wanted != 0 {
@@ -124,8 +124,8 @@ fn write(text: &[u8], out: &mut [u8])
 // The records of a text, at the start of out: result 11 where a line is bad or the events are too
 // many, 10 where out is too short.
 pub fn parse(text: &[u8], out: &mut [u8]) -> Parsed
-    ensures { λ r. ⌜ r ≡ answered (checked (now (text .entry))) (length (now (out .entry))) ⌝ }
-    ensures { λ _. ⌜ now (out .exit) ≡ output (now (text .entry)) (now (out .entry)) ⌝ }
+    ensures answer { λ r. ⌜ r ≡ answered (checked (now (text .entry))) (length (now (out .entry))) ⌝ }
+    ensures wrote { λ _. ⌜ now (out .exit) ≡ output (now (text .entry)) (now (out .entry)) ⌝ }
 {
     let t = check(text);
     if t.wanted != 0 {

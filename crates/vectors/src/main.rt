@@ -17,7 +17,6 @@ use board::Board;
 use history::AREA;
 use history::BLOCK;
 use history::Transfer;
-use libc::STDIN_FILENO;
 use libc::STDOUT_FILENO;
 
 // What an output is filled with before a test.
@@ -79,8 +78,8 @@ fn all_from(buf: &[u8], at: usize, b: u8) -> bool {
 
 // How many first bytes two texts have in common.
 fn common(a: &[u8], b: &[u8]) -> usize
-    ensures { λ r. ⌜ r ≤ length (now (a .entry)) ⌝ }
-    ensures { λ r. ⌜ r ≤ length (now (b .entry)) ⌝ }
+    ensures first { λ r. ⌜ r ≤ length (now (a .entry)) ⌝ }
+    ensures second { λ r. ⌜ r ≤ length (now (b .entry)) ⌝ }
 {
     let mut i: usize = 0;
     while i < a.len() {
@@ -95,15 +94,15 @@ fn common(a: &[u8], b: &[u8]) -> usize
     i
 }
 
-// Reads the file of the given name and ending into buf, and answers its length; 0 where there is no
-// such file, which is told.
+// Reads the file of the given name and ending into buf, and answers its length. Where it is not read
+// whole, that is told.
 fn load(name: &[u8], ending: &[u8], buf: &mut [u8]) -> usize
     requires { ⌜ length (now buf) ≡ 65536 ⌝ }
     ensures { λ r. ⌜ r ≤ length (now (buf .exit)) ⌝ }
 {
     let got = streams::load(name, ending, buf);
-    if got.failed {
-        io::write_all(STDOUT_FILENO, b" no file");
+    if got.error != 0 {
+        io::write_all(STDOUT_FILENO, b": a file is missing or not read whole;");
     }
     got.count
 }
@@ -111,8 +110,8 @@ fn load(name: &[u8], ending: &[u8], buf: &mut [u8]) -> usize
 // Where the block that starts at `from` ends in a file of n bytes.
 fn block_end(from: usize, n: usize) -> usize
     requires { ⌜ from < n ⌝ }
-    ensures { λ r. ⌜ from < r ⌝ }
-    ensures { λ r. ⌜ r ≤ n ⌝ }
+    ensures after { λ r. ⌜ from < r ⌝ }
+    ensures within { λ r. ⌜ r ≤ n ⌝ }
 {
     if n - from > BLOCK { from + BLOCK } else { n }
 }
@@ -142,8 +141,8 @@ fn log_place(s: State, bytes: &[u8], more: bool, out: &mut [u8]) -> State
     requires { ⌜ s .place ≤ 65536 ⌝ }
     requires { ⌜ s .at ≤ 65536 ⌝ }
     requires { ⌜ length (now out) ≡ 65536 ⌝ }
-    ensures { λ r. ⌜ r .place ≤ s .place + 1 ⌝ }
-    ensures { λ r. ⌜ r .at ≤ 65536 ⌝ }
+    ensures places { λ r. ⌜ r .place ≤ s .place + 1 ⌝ }
+    ensures place { λ r. ⌜ r .at ≤ 65536 ⌝ }
 {
     let at = s.at;
     let board = s.board;
@@ -189,8 +188,8 @@ fn steps_block(number: u32) -> [u8; BLOCK] {
 fn log_blocks(n: u32, more: bool, out: &mut [u8]) -> State
     requires { ⌜ n ≤ 65536 ⌝ }
     requires { ⌜ length (now out) ≡ 65536 ⌝ }
-    ensures { λ r. ⌜ r .place ≤ 65536 ⌝ }
-    ensures { λ r. ⌜ r .at ≤ 65536 ⌝ }
+    ensures places { λ r. ⌜ r .place ≤ 65536 ⌝ }
+    ensures place { λ r. ⌜ r .at ≤ 65536 ⌝ }
 {
     let mut s = start();
     let mut i: u32 = 0;
@@ -548,6 +547,10 @@ fn main() {
     let mut file = io::large_buffer();
     let mut out = io::large_buffer();
     let mut back = io::large_buffer();
-    let n = io::read_full(STDIN_FILENO, &mut table);
+    let got = streams::read_all(b"vectors", &mut table);
+    if got.failed {
+        return;
+    }
+    let n = got.count;
     run(&table[..n], &mut file, &mut out, &mut back);
 }

@@ -2,11 +2,11 @@
 // bits its result has, and the crates above go by that. A word function ends in a remainder by
 // 2^48, so it takes every u64.
 ghost use mathlib.Core.Path.{_≡_};
-ghost use Prim.Native.Nat.{_<_, _%_, _^_};
+ghost use Prim.Native.Nat.{_<_};
 ghost use mathlib.Core.Bool.{not, cond, _||_, _&&_};
-ghost use lib.Dec.{eqb};
+ghost use lib.Dec.{eqb, ltb};
 ghost use Rattle.words.specs.Bits.{bit, flag, flags, word, putBit};
-ghost use Rattle.words.specs.Range.{below};
+ghost use Rattle.words.specs.Range.{orReset};
 
 // Words are below this, 48 bits.
 pub const WORDS: u64 = 1 << 48;
@@ -32,9 +32,16 @@ pub fn flags(a: bool, b: bool, c: bool, d: bool) -> u32
 
 // `n` where it is below the limit, else the value at reset.
 pub fn below(limit: u32, reset: u32, n: u32) -> u32
-    ensures { λ r. ⌜ r ≡ below limit reset n ⌝ }
+    ensures { λ r. ⌜ r ≡ orReset (λ m. ltb m limit) reset n ⌝ }
 {
     if n < limit { n } else { reset }
+}
+
+// The same of a word.
+pub fn word_below(limit: u64, reset: u64, w: u64) -> u64
+    ensures { λ r. ⌜ r ≡ orReset (λ m. ltb m limit) reset w ⌝ }
+{
+    if w < limit { w } else { reset }
 }
 
 // Bit `i` of `w`.
@@ -94,11 +101,4 @@ pub fn put(w: u64, p: u64, v: bool) -> u64
     ensures { λ r. ⌜ r ≡ putBit 48 p v w ⌝ }
 {
     select(only(p), all(v), w)
-}
-
-// `w` without the bits above bit 47.
-pub fn cut(w: u64) -> u64
-    ensures { λ r. ⌜ r ≡ word 48 (bit w) ⌝ }
-{
-    w % WORDS
 }

@@ -10,11 +10,11 @@ use Rattle.scenarios.proofs.look_all.Statement.{statement}
 use Rattle.scenarios.proofs.look_all.Tie as tie
 
 abbrev Inv-loop : tie.InvT-loop
-Inv-loop name text levels out₀ number₀ good₀ from₀ t9 t10 out number good from =
+Inv-loop open₀ name text levels out₀ number₀ good₀ from₀ t10 t11 «open» out number good from =
     (length out ≡ 65536) × (from ≤ length levels + 1)
 
 abbrev μ-loop : tie.MeasureT-loop
-μ-loop name text levels out₀ number₀ good₀ from₀ t9 t10 out number good from = length levels + 1 - from
+μ-loop open₀ name text levels out₀ number₀ good₀ from₀ t10 t11 «open» out number good from = length levels + 1 - from
 
 loop-holds : tie.Need-loop-holds Inv-loop μ-loop
 loop-holds c = search needs
@@ -67,8 +67,8 @@ loop-less c = search needs
 loop-again : tie.Need-loop-again Inv-loop μ-loop
 loop-again c =
     ⊎-elim
-    (λ w. omega (arith, ap length (w .8)))
-    (λ w. omega (arith, ap length (w .1)))
+    (λ w. omega (arith, ap length (w .10)))
+    (λ w. omega (arith, ap length (w .2)))
     (c .if1 .came)
 
 slice-aggregate-say : tie.Need-slice-aggregate-say Inv-loop μ-loop

@@ -10,11 +10,11 @@ use Rattle.scenarios.proofs.run_answers.Statement.{statement}
 use Rattle.scenarios.proofs.run_answers.Tie as tie
 
 abbrev Inv-loop : tie.InvT-loop
-Inv-loop name text log line₀ t₀ c₀ from₀ t12 t13 t14 line t c from =
+Inv-loop open₀ name text log line₀ t₀ c₀ from₀ t13 t14 t15 «open» line t c from =
     (length line ≡ 126) × (c .log .at ≤ 65536) × (c .log .came ≤ 126) × (from ≤ length text + 1)
 
 abbrev μ-loop : tie.MeasureT-loop
-μ-loop name text log line₀ t₀ c₀ from₀ t12 t13 t14 line t c from = length text + 1 - from
+μ-loop open₀ name text log line₀ t₀ c₀ from₀ t13 t14 t15 «open» line t c from = length text + 1 - from
 
 no-text-requires : tie.Need-no-text-requires Inv-loop μ-loop
 no-text-requires c κs = search needs
@@ -63,8 +63,8 @@ array-share-prefix-line c = search needs
 
 slice-aggregate-tell-answer : tie.Need-slice-aggregate-tell-answer Inv-loop μ-loop
 slice-aggregate-tell-answer c =
-    let sent = c .before .before .before .send-times in
-    let turn = c .before .before .before .before .before .before .before .before .before .before .before .before .before in
+    let sent = c .before .before .before .before .send-times in
+    let turn = c .before .before .before .before .before .before .before .before .before .before .before .before .before .before in
     sym (length-take-le _ _ (omega (arith, sent .ensures .1, turn .loop .inv .0)))
 
 tell-answer-requires : tie.Need-tell-answer-requires Inv-loop μ-loop

@@ -1,6 +1,6 @@
 -- `board::Board::channel_event` meets its contract.
 -- Assumes nothing.
-use Rattle.board.specs.Respond.{acceptedBy}
+use Rattle.board.specs.Respond.{passedBy}
 use borrow.Author.Needs.{needs}
 use Rattle.board.proofs.Board.channel_event.Statement.{statement}
 use Rattle.board.proofs.Board.channel_event.Tie as tie
@@ -24,7 +24,7 @@ element-set-from-next : tie.Need-element-set-from-next
 element-set-from-next c = search needs
 
 returns : tie.Need-returns
-unfolding acceptedBy
+unfolding passedBy
 returns c = rw (c .before .before .channel-call .ensures)
 
 pub channel-event-spec : {M : Type 1} → statement M

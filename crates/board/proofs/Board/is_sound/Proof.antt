@@ -1,9 +1,10 @@
 -- `board::Board::is_sound` meets its contract.
 -- Assumes nothing.
 use mathlib.Core.Path.{_≡_, sym, _∙_}
-use mathlib.Core.Bool.{and-eq-true-iff}
 use lib.ListN.{length, length-map}
-use Rattle.board.proofs.Same.{channels-same, board-same}
+use borrow.Author.Tests.{eq-eqb}
+use Rattle.words.specs.Bits.{every}
+use Rattle.board.specs.Handed.{inRange}
 use borrow.Author.Needs.{needs}
 use Rattle.board.proofs.Board.is_sound.Statement.{statement}
 use Rattle.board.proofs.Board.is_sound.Tie as tie
@@ -54,7 +55,8 @@ is-sound-requires-9 : tie.Need-is-sound-requires-9
 is-sound-requires-9 c κs = search needs
 
 returns : tie.Need-returns
-returns c h =
+unfolding inRange every
+returns c =
     let c₁ = c .before in
     let c₂ = c₁ .before in
     let c₃ = c₂ .before in
@@ -65,27 +67,9 @@ returns c h =
     let c₈ = c₇ .before in
     let start = c₈ .before .before .before .before .before .before .before .before .before .before .before in
     let b = start .args .self in
-    let h₈ = and-eq-true-iff _ _ .0 h in
-    let h₇ = and-eq-true-iff _ _ .0 (h₈ .0) in
-    let h₆ = and-eq-true-iff _ _ .0 (h₇ .0) in
-    let h₅ = and-eq-true-iff _ _ .0 (h₆ .0) in
-    let h₄ = and-eq-true-iff _ _ .0 (h₅ .0) in
-    let h₃ = and-eq-true-iff _ _ .0 (h₄ .0) in
-    let h₂ = and-eq-true-iff _ _ .0 (h₃ .0) in
-    let h₁ = and-eq-true-iff _ _ .0 (h₂ .0) in
     -- the array has six elements: its relation, inside the board's
     let s : length (b .channels) ≡ 6 = sym (length-map (b .channels) _) ∙ start .good .0 .1 .1 .0 .1 .0 .1 in
-    board-same b
-    (channels-same (b .channels) s
-    (c₈ .is-sound .ensures (h₁ .0))
-    (c₇ .is-sound2 .ensures (h₁ .1))
-    (c₆ .is-sound3 .ensures (h₂ .1))
-    (c₅ .is-sound4 .ensures (h₃ .1))
-    (c₄ .is-sound5 .ensures (h₄ .1))
-    (c₃ .is-sound6 .ensures (h₅ .1)))
-    (c₂ .is-sound7 .ensures (h₆ .1))
-    (c₁ .is-sound8 .ensures (h₇ .1))
-    (c .is-sound9 .ensures (h₈ .1))
+    rw (c .is-sound9 .ensures, c₁ .is-sound8 .ensures, c₂ .is-sound7 .ensures, c₃ .is-sound6 .ensures, c₄ .is-sound5 .ensures, c₅ .is-sound4 .ensures, c₆ .is-sound3 .ensures, c₇ .is-sound2 .ensures, c₈ .is-sound .ensures, eq-eqb (length (b .channels)) 6 s)
 
 pub is-sound-spec : {M : Type 1} → statement M
 is-sound-spec =

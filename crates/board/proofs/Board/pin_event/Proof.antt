@@ -1,25 +1,16 @@
 -- `board::Board::pin_event` meets its contract.
 -- Assumes nothing.
-use Rattle.board.specs.Respond.{acceptedBy}
+use Rattle.board.specs.Respond.{passedBy}
 use borrow.Author.Needs.{needs}
 use Rattle.board.proofs.Board.pin_event.Statement.{statement}
 use Rattle.board.proofs.Board.pin_event.Tie as tie
 
-cast-m : tie.Need-cast-m
-cast-m c = search needs
-
-at-requires : tie.Need-at-requires
-at-requires c κs = search needs
-
-pin-call-requires : tie.Need-pin-call-requires
-pin-call-requires c κs = search needs
-
-put-requires : tie.Need-put-requires
-put-requires c κs = search needs
+pins-call-requires : tie.Need-pins-call-requires
+pins-call-requires c κs = search needs
 
 returns : tie.Need-returns
-unfolding acceptedBy
-returns c = rw (c .put .ensures, c .before .before .before .pin-call .ensures, c .before .before .before .before .at .ensures)
+unfolding passedBy
+returns c = rw (c .before .before .pins-call .ensures)
 
 pub pin-event-spec : {M : Type 1} → statement M
-pin-event-spec = tie.close (tie.spec cast-m at-requires pin-call-requires put-requires returns)
+pin-event-spec = tie.close (tie.spec pins-call-requires returns)

@@ -1,11 +1,7 @@
 -- `counter::Channel::is_sound` meets its contract.
 -- Assumes nothing.
-use mathlib.Core.Path.{_≡_, sym, _∙_}
-use mathlib.Core.Bool.{and-eq-true-iff}
-use lib.IntN.{ℤ}
-use Rattle.counter.specs.Repair.{inCarry}
+use Rattle.counter.specs.Repair.{channelInRange}
 use Rattle.counter.proofs.Signed.{back}
-use Rattle.counter.proofs.Same.{channel-same}
 use borrow.Author.Needs.{needs}
 use Rattle.counter.proofs.Channel.is_sound.Statement.{statement}
 use Rattle.counter.proofs.Channel.is_sound.Tie as tie
@@ -19,22 +15,12 @@ is-carry-requires c κs = search needs
 are-reasons-requires : tie.Need-are-reasons-requires
 are-reasons-requires c κs = search needs
 
--- what is known of a carry read back from its bits
-kept : {z d : ℤ} → z ≡ d → inCarry z ≡ z → inCarry d ≡ d
-kept e h = rw e at h
-
 returns : tie.Need-returns
-returns c h =
+unfolding channelInRange
+returns c =
     let c₇ = c .before .before .before .before .before .before .before in
-    let x = c₇ .before .before .args .self in
-    let h₆ = and-eq-true-iff _ _ .0 h in
-    let h₅ = and-eq-true-iff _ _ .0 (h₆ .0) in
-    let h₄ = and-eq-true-iff _ _ .0 (h₅ .0) in
-    let h₃ = and-eq-true-iff _ _ .0 (h₄ .0) in
-    let h₂ = and-eq-true-iff _ _ .0 (h₃ .0) in
-    let h₁ = and-eq-true-iff _ _ .0 (h₂ .0) in
-    channel-same x (sym (c₇ .is-good .ensures) ∙ h₁ .0) (h₁ .1) (h₂ .1) (h₃ .1) (h₄ .1)
-    (kept (back (x .carry) (c .before .before .struct-told .given .1 .1 .1 .1 .1 .1 .1 .1 .1 .1 .1 .0 .1)) (c .before .is-carry .ensures (h₅ .1))) (c .are-reasons .ensures (h₆ .1))
+    let carry = back (c₇ .before .before .args .self .carry) (c .before .before .struct-told .given .1 .1 .1 .1 .1 .1 .1 .1 .1 .1 .1 .0 .1) in
+    rw (c .are-reasons .ensures, c .before .is-carry .ensures, carry, c₇ .is-good .ensures)
 
 pub is-sound-spec : {M : Type 1} → statement M
 is-sound-spec =

@@ -1,7 +1,7 @@
 -- `counter::Channel::repair` meets its contract.
 -- Assumes nothing.
 use Rattle.counter.proofs.Signed.{back}
-use Rattle.counter.specs.Repair.{repaired}
+use Rattle.counter.specs.Repair.{resetChannel, repaired}
 use borrow.Author.Needs.{needs}
 use Rattle.counter.proofs.Channel.repair.Statement.{statement}
 use Rattle.counter.proofs.Channel.repair.Tie as tie
@@ -28,7 +28,7 @@ below-requires-4 : tie.Need-below-requires-4
 below-requires-4 c κs = search needs
 
 returns : tie.Need-returns
-unfolding repaired
+unfolding repaired resetChannel
 returns c = let carry = back (c .before .before .before .before .before .before .before .before .before .args .self .carry) (search needs) in
     rw (c .below4 .ensures, c .before .in-reasons .ensures, c .before .before .before .in-carry .ensures, carry, c .before .before .before .before .before .below3 .ensures, c .before .before .before .before .before .before .below2 .ensures, c .before .before .before .before .before .before .before .below .ensures, c .before .before .before .before .before .before .before .before .in-range .ensures)
 

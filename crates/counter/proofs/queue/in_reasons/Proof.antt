@@ -5,17 +5,17 @@ use mathlib.Core.List.{List, _++_}
 use Prim.Native.Nat.{ℕ, _-_, _≤_}
 use native.Mathlib.Omega.{arith}
 use lib.ListN.{getD, drop}
-use Rattle.counter.specs.Repair.{inReasons}
+use Rattle.counter.specs.Repair.{isReasons, inReasons}
 use Rattle.words.proofs.Tables.{filled-on, filled-all}
 use Rattle.words.specs.Table.{tab}
-use Rattle.words.specs.Range.{below}
+use Rattle.words.specs.Range.{orReset}
 use borrow.Author.Needs.{needs}
 use Rattle.counter.proofs.queue.in_reasons.Statement.{statement}
 use Rattle.counter.proofs.queue.in_reasons.Tie as tie
 
 -- what each place becomes
 abbrev ranged : List ℕ → ℕ → ℕ
-ranged a j = below 512 0 (getD a j 0)
+ranged a j = orReset isReasons 0 (getD a j 0)
 
 abbrev Inv-loop : tie.InvT-loop
 Inv-loop a b₀ i₀ b i = (i ≤ 16) × (b ≡ tab i (ranged a) ++ drop i a)

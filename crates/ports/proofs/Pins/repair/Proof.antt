@@ -1,24 +1,36 @@
 -- `ports::Pins::repair` meets its contract.
 -- Assumes nothing.
-use Rattle.ports.specs.Pins.{repairedPins, pinAt}
+use Rattle.ports.specs.Pins.{pinAt, resetPins, repairedWords, repairedSources, repairedPins}
 use borrow.Author.Needs.{needs}
 use Rattle.ports.proofs.Pins.repair.Statement.{statement}
 use Rattle.ports.proofs.Pins.repair.Tie as tie
 
-cut-requires : tie.Need-cut-requires
-cut-requires c κs = search needs
+pin-word-requires : tie.Need-pin-word-requires
+pin-word-requires c κs = search needs
 
-cut-requires-2 : tie.Need-cut-requires-2
-cut-requires-2 c κs = search needs
+pin-word-requires-2 : tie.Need-pin-word-requires-2
+pin-word-requires-2 c κs = search needs
 
-cut-requires-3 : tie.Need-cut-requires-3
-cut-requires-3 c κs = search needs
+pin-word-requires-3 : tie.Need-pin-word-requires-3
+pin-word-requires-3 c κs = search needs
 
-cut-requires-4 : tie.Need-cut-requires-4
-cut-requires-4 c κs = search needs
+pin-word-requires-4 : tie.Need-pin-word-requires-4
+pin-word-requires-4 c κs = search needs
 
-cut-requires-5 : tie.Need-cut-requires-5
-cut-requires-5 c κs = search needs
+pin-word-requires-5 : tie.Need-pin-word-requires-5
+pin-word-requires-5 c κs = search needs
+
+pin-word-requires-6 : tie.Need-pin-word-requires-6
+pin-word-requires-6 c κs = search needs
+
+pin-word-requires-7 : tie.Need-pin-word-requires-7
+pin-word-requires-7 c κs = search needs
+
+all-requires : tie.Need-all-requires
+all-requires c κs = search needs
+
+pin-word-requires-8 : tie.Need-pin-word-requires-8
+pin-word-requires-8 c κs = search needs
 
 mended-requires : tie.Need-mended-requires
 mended-requires c κs = search needs
@@ -30,7 +42,7 @@ mended-requires-3 : tie.Need-mended-requires-3
 mended-requires-3 c κs = search needs
 
 returns : tie.Need-returns
-unfolding repairedPins pinAt
+unfolding repairedPins repairedSources repairedWords resetPins pinAt
 returns c =
     let c₁ = c .before in
     let c₂ = c₁ .before in
@@ -39,17 +51,25 @@ returns c =
     let c₅ = c₄ .before in
     let c₆ = c₅ .before in
     let c₇ = c₆ .before in
-    rw (c .mended3 .ensures, c₁ .mended2 .ensures, c₂ .mended .ensures, c₃ .cut5 .ensures, c₄ .cut4 .ensures, c₅ .cut3 .ensures, c₆ .cut2 .ensures, c₇ .cut .ensures)
+    let c₈ = c₇ .before in
+    let c₉ = c₈ .before in
+    let c₁₀ = c₉ .before in
+    let c₁₁ = c₁₀ .before in
+    rw (c .mended3 .ensures, c₁ .mended2 .ensures, c₂ .mended .ensures, c₃ .pin-word8 .ensures, c₄ .all .ensures, c₅ .pin-word7 .ensures, c₆ .pin-word6 .ensures, c₇ .pin-word5 .ensures, c₈ .pin-word4 .ensures, c₉ .pin-word3 .ensures, c₁₀ .pin-word2 .ensures, c₁₁ .pin-word .ensures)
 
 pub repair-spec : {M : Type 1} → statement M
 repair-spec =
     tie.close
     (tie.spec
-    cut-requires
-    cut-requires-2
-    cut-requires-3
-    cut-requires-4
-    cut-requires-5
+    pin-word-requires
+    pin-word-requires-2
+    pin-word-requires-3
+    pin-word-requires-4
+    pin-word-requires-5
+    pin-word-requires-6
+    pin-word-requires-7
+    all-requires
+    pin-word-requires-8
     mended-requires
     mended-requires-2
     mended-requires-3
