@@ -249,7 +249,9 @@ impl<M: Mode> Board<M> {
             5 => channel.mask = e.v,
             6 => channel.start(),
             7 => channel.running = false,
-            8 => channel.capture(self.timestamp, SOFT),
+            8 => {
+                channel.capture(self.timestamp, SOFT);
+            }
             9 => channel.preload(),
             10 => return tell(channel.count),
             11 => return channel.queue.read(),

@@ -116,12 +116,13 @@ impl<M: Mode> Channel<M> {
             | ((self.count == 0) as u32) << 2
     }
 
-    pub fn capture(&mut self, timestamp: u32, reason: u32) {
+    /// Whether the capture is stored.
+    pub fn capture(&mut self, timestamp: u32, reason: u32) -> bool {
         self.queue.push(Capture {
             count: self.count,
             timestamp,
             reason,
-        });
+        })
     }
 
     /// Copies the selected preload, if NR allows it.

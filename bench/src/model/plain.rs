@@ -39,12 +39,12 @@ impl Channel<Plain> {
         let before = self.kept;
         self.kept = self.samples(lines, scene);
         self.carry = 0;
-        let caught = if self.running {
+        let stored = if self.running {
             self.advance(before, carry, scene)
         } else {
             0
         };
-        self.extout(caught)
+        self.extout(stored)
     }
 
     fn samples(&self, lines: u32, scene: &Scene) -> u32 {
@@ -60,7 +60,7 @@ impl Channel<Plain> {
     }
 
     /// The step of a running channel from the samples `before` to those kept now. The answer is the
-    /// reasons of its capture.
+    /// reasons of the capture that it stored.
     fn advance(&mut self, before: u32, carry: i32, scene: &Scene) -> u32 {
         let word = self.mode.word;
         let now = self.kept;
@@ -82,15 +82,13 @@ impl Channel<Plain> {
             }
         }
         let caught = reasons & self.mask;
-        if caught != 0 {
-            self.capture(scene.timestamp, caught);
-        }
+        let stored = caught != 0 && self.capture(scene.timestamp, caught);
         let asked = reasons & word.tp() != 0 || word.tp_index_high() && now & INDEX != 0;
         let held_off = word.im() == 2 && now & EXTIN == 0;
         if asked && !held_off {
             self.preload();
         }
-        caught
+        if stored { caught } else { 0 }
     }
 
     /// What the step adds to the count: -1, 0 or 1.
@@ -120,11 +118,11 @@ impl Channel<Plain> {
         }
     }
 
-    /// ExtOut after a step with a capture of these reasons.
-    fn extout(&self, caught: u32) -> bool {
+    /// ExtOut after a step that stored a capture of these reasons.
+    fn extout(&self, stored: u32) -> bool {
         let word = self.mode.word;
         let level = match word.om() {
-            1 => caught & (MATCH0 | MATCH1) != 0,
+            1 => stored & (MATCH0 | MATCH1) != 0,
             2 => self.second,
             3 => self.count != 0,
             4 => self.count == 0,

@@ -30,13 +30,15 @@ impl Queue {
         (0..self.held).map(|i| &self.ring[(self.first + i) % QUEUE])
     }
 
-    pub fn push(&mut self, capture: Capture) {
+    /// Whether the entry is stored; in a full queue it is lost.
+    pub fn push(&mut self, capture: Capture) -> bool {
         if self.held == QUEUE {
             self.lost = self.lost.saturating_add(1);
-            return;
+            return false;
         }
         self.ring[(self.first + self.held) % QUEUE] = capture;
         self.held += 1;
+        true
     }
 
     fn pop(&mut self) -> Option<Capture> {

@@ -100,12 +100,12 @@ impl Channel<Tuned> {
         let now = self.samples(v & (A | B | IX), scene);
         self.kept = now;
         self.carry = 0;
-        let caught = if self.running {
+        let stored = if self.running {
             self.advance(before, now, carry, scene)
         } else {
             0
         };
-        self.output(caught)
+        self.output(stored)
     }
 
     #[inline(always)]
@@ -117,7 +117,7 @@ impl Channel<Tuned> {
         lines & (A | B) | index << 2 | extin << 3
     }
 
-    /// The step of a running channel. The answer is the reasons of its capture.
+    /// The step of a running channel. The answer is the reasons of the capture that it stored.
     #[inline(always)]
     fn advance(&mut self, before: u32, now: u32, carry: i32, scene: &Scene) -> u32 {
         let mode = &self.mode;
@@ -139,13 +139,11 @@ impl Channel<Tuned> {
             events |= self.count_on(if mode.reversed { -d } else { d });
         }
         let caught = events & self.mask;
-        if caught != 0 {
-            self.capture(scene.timestamp, caught);
-        }
+        let stored = caught != 0 && self.capture(scene.timestamp, caught);
         if events & self.mode.preloads != 0 && self.mode.preload_gate & !now == 0 {
             self.preload();
         }
-        caught
+        if stored { caught } else { 0 }
     }
 
     /// Adds 1 or -1 to the count. The answer is the matches.
@@ -157,9 +155,9 @@ impl Channel<Tuned> {
         matches
     }
 
-    /// ExtOut after a step with a capture of these reasons.
-    fn output(&self, caught: u32) -> u32 {
-        let levels = caught & (MATCH0 | MATCH1)
+    /// ExtOut after a step that stored a capture of these reasons.
+    fn output(&self, stored: u32) -> u32 {
+        let levels = stored & (MATCH0 | MATCH1)
             | (self.second as u32) << 2
             | if self.count == 0 {
                 AT_ZERO

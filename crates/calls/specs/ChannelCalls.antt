@@ -47,7 +47,7 @@ halt c = accept (withRun false (c .armed) c)
 
 -- 8 soft snapshot: running or not, with reason 128 under every mask
 abbrev pub snapshot : ℕ → Channel → Reply Channel
-snapshot t c = accept (captured (c .count) t 128 c)
+snapshot t c = accept (captured (c .count) t 128 c .channel)
 
 -- 9 soft preload
 abbrev pub softPreload : Channel → Reply Channel

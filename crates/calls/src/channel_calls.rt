@@ -126,7 +126,7 @@ fn halt(c: Channel) -> ChannelReply
 fn snapshot(c: Channel, timestamp: u32) -> ChannelReply
     ensures { λ r. ⌜ r ≡ channelReply (snapshot timestamp c) ⌝ }
 {
-    accept(c.capture(c.count, timestamp, counter::SOFT))
+    accept(c.capture(c.count, timestamp, counter::SOFT).channel)
 }
 
 // Call 9.

@@ -3,3 +3,4 @@ pub mod Wrap
 pub mod Turns
 pub mod Placed
 pub mod Same
+pub mod Settings

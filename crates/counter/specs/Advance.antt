@@ -2,7 +2,7 @@
 -- `advance` is the stages in a row.
 -- Assumes nothing.
 use mathlib.Core.Bool.{Bool, false, not, cond, _&&_, _||_, Bool·beq}
-use Prim.Native.Nat.{ℕ, _+_, _*_, _%_}
+use Prim.Native.Nat.{ℕ, _+_, _*_}
 use lib.Bits.{bitOr}
 use lib.Dec.{eqb}
 use lib.ListN.{getD}
@@ -19,6 +19,7 @@ use Rattle.counter.specs.declared.Seen.{Seen}
 use Rattle.counter.specs.declared.Counted.{Counted}
 use Rattle.counter.specs.declared.Loaded.{Loaded}
 use Rattle.counter.specs.declared.Next.{Next}
+use Rattle.counter.specs.declared.Capture.{Capture}
 
 -- all that a channel takes from elsewhere: its samples (A + 2 B + 4 index + 8 ExtIn), the neighbour's carry, whether the timestamp rises, the timestamp
 pub record Inputs : Type 0 where
@@ -104,7 +105,7 @@ loaded now high k c =
     (record { count = selected c; second = flipped (c .mode) (c .second); armed = armedByLoad (c .mode) (k .armed) })
     (record { count = k .count; second = c .second; armed = k .armed })
 
--- ---- ExtOut by OM: 0 low, 1 high with a match 0 or 1 capture, 2 preload 1 selected, 3 count not 0, 4 count 0; OP inverts
+-- ---- ExtOut by OM: 0 low, 1 the pulse, 2 preload 1 selected, 3 count not 0, 4 count 0; OP inverts
 
 abbrev pub shown : ℕ → Bool → Bool → ℕ → Bool
 shown om pulse second count =
@@ -119,23 +120,30 @@ output m pulse second count = not (Bool·beq (shown (OM m) pulse second count) (
 unfoldable pub nextOf : ℕ → Seen → Channel → Next
 nextOf now s c =
     let k : Counted = counted s c in
-    let caught : ℕ = masked (c .mask) (k .reasons) in
     let l : Loaded = loaded now (s .high) k c in
     record {
       count = l .count;
       seen = k .count;
-      caught = caught;
+      caught = masked (c .mask) (k .reasons);
       carry = k .carry;
       armed = l .armed;
       second = l .second;
-      extout = output (c .mode) (not (eqb (caught % 4) 0)) (l .second) (l .count);
     }
 
--- the record with these, the samples kept, and one capture of the count before the preload
+-- one capture of the count before the preload, for the reasons caught; none without a reason
+abbrev pub recorded : ℕ → Next → Channel → Capture
+recorded timestamp n c = cond (eqb (n .caught) 0) (record { channel = c; stored = false }) (captured (n .seen) timestamp (n .caught) c)
+
+-- reason bit 0 or 1, a match
+abbrev pub isMatch : ℕ → Bool
+isMatch reasons = bit reasons 0 || bit reasons 1
+
+-- the record with the capture, the small fields, the samples kept, and ExtOut: the pulse is a capture with a match that was stored (request 1)
 unfoldable pub settled : ℕ → ℕ → Next → Channel → Channel
 settled now timestamp n c =
-    let next : Channel = withStep (n .count) (n .carry) (n .armed) (n .second) (n .extout) now c in
-    cond (eqb (n .caught) 0) next (captured (n .seen) timestamp (n .caught) next)
+    let told : Capture = recorded timestamp n c in
+    let extout : Bool = output (c .mode) (told .stored && isMatch (n .caught)) (n .second) (n .count) in
+    withStep (n .count) (n .carry) (n .armed) (n .second) extout now (told .channel)
 
 -- the step from what the lines tell
 unfoldable pub step : ℕ → ℕ → Seen → Channel → Channel

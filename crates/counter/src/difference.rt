@@ -133,10 +133,10 @@ pub fn carry_of(n: u32, d: i32) -> i32
     ensures { λ r. ⌜ r ≡ carryOf n d ⌝ }
 {
     let next = moved(n, d);
-    if (0 < d) & (next < n) {
-        1
+    if 0 < d {
+        unit(next < n)
     } else {
-        if (d < 0) & (n < next) { -1 } else { 0 }
+        if n < next { -1 } else { 0 }
     }
 }
 

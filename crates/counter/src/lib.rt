@@ -90,8 +90,8 @@ pub struct Loaded {
     pub armed: bool,
 }
 
-// What a step makes of a channel's small fields: `seen` is the count before a preload, which a
-// capture holds, and `caught` the reasons of that capture, 0 for none.
+// What a step makes of a channel's small fields, but for ExtOut: `seen` is the count before a
+// preload, which a capture holds, and `caught` the reasons of that capture, 0 for none.
 pub struct Next {
     pub count: u32,
     pub seen: u32,
@@ -99,16 +99,22 @@ pub struct Next {
     pub carry: i32,
     pub armed: bool,
     pub second: bool,
-    pub extout: bool,
+}
+
+// What a capture tells whoever made it: the channel after it, and whether its entry was stored.
+pub struct Capture {
+    pub channel: Channel,
+    pub stored: bool,
 }
 
 impl Channel {
-    // One capture more, or the lost count one higher.
-    pub fn capture(mut self, count: u32, timestamp: u32, reason: u32) -> Channel
+    // One capture more, stored, or the lost count one higher.
+    pub fn capture(mut self, count: u32, timestamp: u32, reason: u32) -> Capture
         ensures { λ r. ⌜ r ≡ captured count timestamp reason self ⌝ }
     {
         let held = self.held;
-        if held < queue::ROOM {
+        let stored = held < queue::ROOM;
+        if stored {
             let counts = self.counts;
             let timestamps = self.timestamps;
             let reasons = self.reasons;
@@ -124,7 +130,10 @@ impl Channel {
                 self.lost = self.lost + 1;
             }
         }
-        self
+        Capture {
+            channel: self,
+            stored: stored,
+        }
     }
 
     // The queue without its oldest entry.
@@ -265,8 +274,7 @@ impl Channel {
         ensures { λ r. ⌜ r ≡ nextOf now s self ⌝ }
     {
         let k = self.count_on(s);
-        let reasons = k.reasons;
-        let caught = stages::masked(self.mask, reasons);
+        let caught = stages::masked(self.mask, k.reasons);
         let l = self.load(now, s.high, k);
         Next {
             count: l.count,
@@ -275,23 +283,28 @@ impl Channel {
             carry: k.carry,
             armed: l.armed,
             second: l.second,
-            extout: stages::output(self.mode, caught % 4 != 0, l.second, l.count),
         }
     }
 
-    // The record after a step that made `n` of the small fields.
+    // The record after a step that made `n` of the small fields: one capture for the reasons caught,
+    // and ExtOut by what it told.
     fn settle(mut self, now: u32, timestamp: u32, n: Next) -> Channel
         ensures { λ r. ⌜ r ≡ settled now timestamp n self ⌝ }
     {
+        let mut pulse = false;
+        if n.caught != 0 {
+            let told = self.capture(n.seen, timestamp, n.caught);
+            self = told.channel;
+            if told.stored {
+                pulse = stages::is_match(n.caught);
+            }
+        }
         self.count = n.count;
         self.carry = n.carry;
         self.armed = n.armed;
         self.second = n.second;
-        self.extout = n.extout;
+        self.extout = stages::output(self.mode, pulse, n.second, n.count);
         self.kept = now;
-        if n.caught != 0 {
-            self = self.capture(n.seen, timestamp, n.caught);
-        }
         self
     }
 

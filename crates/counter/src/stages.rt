@@ -1,7 +1,7 @@
 // What the stages of a channel's step ask of the mode word and of the samples, in document 01's order.
 ghost use mathlib.Core.Path.{_≡_};
 ghost use Rattle.counter.specs.Preload.{allowed, flipped, armedByLoad};
-ghost use Rattle.counter.specs.Advance.{armedByEdge, counts, edgeReasons, masked, asked, allowedNow, shown, output};
+ghost use Rattle.counter.specs.Advance.{armedByEdge, counts, edgeReasons, masked, asked, allowedNow, shown, output, isMatch};
 use crate::REASONS;
 use crate::mode;
 use crate::samples::extin;
@@ -38,6 +38,13 @@ pub fn masked(mask: u32, reasons: u32) -> u32
     ensures { λ r. ⌜ r ≡ masked mask reasons ⌝ }
 {
     (mask & reasons) % REASONS
+}
+
+// Reason bit 0 or 1, a match.
+pub fn is_match(reasons: u32) -> bool
+    ensures { λ r. ⌜ r ≡ isMatch reasons ⌝ }
+{
+    reasons % 4 != 0
 }
 
 // An event of TP holds: 11 to 15 are reasons 0 to 4, and 16 is the index being high.

@@ -23,7 +23,7 @@ use Rattle.calls.specs.declared.Event.{Event}
 use Rattle.calls.specs.declared.Answer.{Answer}
 use Rattle.board.specs.Inputs.{channelIn}
 use Rattle.board.proofs.Checks.{named}
-use Rattle.board.proofs.Steps.{of-step, of-call}
+use Rattle.board.proofs.Steps.{of-step, of-call, of-refused-step}
 use Rattle.board.specs.Respond.{classOf, refusalIn, refusalBy, checked, passedBy, calledBy, respond}
 use Rattle.board.specs.declared.Class.{Class}
 use Rattle.board.specs.declared.Class.the-variants.{Step, OnChannel, OnPin, OnVirtual, OnBoard, Unknown}
@@ -121,8 +121,7 @@ cleared-step M e s =
 
 -- a step that is not accepted is refused
 refused-step : (b : Board) (e : Event) → isStep e ≡ false → eqb (e .kind) 0 ≡ true → isRefusedStep e (respond b e .answer) ≡ true
-unfolding calledBy refusalBy
-refused-step b e u k = rw (of-call b e u, eqb-true (e .kind) 0 k)
+refused-step b e u k = rw (of-refused-step b e u (eqb-true (e .kind) 0 k), k)
 
 -- ---- any event that stays in the remainder
 
@@ -208,9 +207,8 @@ module _ (M : Members) (b h : Board) (seen : Seen M b h) (left : InRange b) (e :
 
   -- a refused step
   step-gone : (u : Bool) → isStep e ≡ u → isRefusedStep e (respond b e .answer) ≡ true → Seen M (respond b e .state) h
-  unfolding calledBy refusalBy
   step-gone true u r = absurd (false≢true (rw (of-step b e u) at (and-eq-true-iff (eqb (e .kind) 0) _ .0 r .1)))
-  step-gone false u r = rw (of-call b e u, eqb-true (e .kind) 0 (and-eq-true-iff (eqb (e .kind) 0) _ .0 r .0)) seen
+  step-gone false u r = rw (of-refused-step b e u (eqb-true (e .kind) 0 (and-eq-true-iff (eqb (e .kind) 0) _ .0 r .0))) seen
 
   pub respond-gone : struck M e (respond b e .answer) ≡ true → Seen M (respond b e .state) h
   unfolding struck

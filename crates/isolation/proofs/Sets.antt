@@ -7,13 +7,9 @@ use Prim.Native.Nat.{ℕ}
 use lib.Dec.{eqb, ltb}
 use borrow.Author.Tests.{eqb-true}
 use Rattle.words.proofs.Cases.{tested, either}
-use Rattle.counter.specs.Mode.{TP}
 use Rattle.counter.specs.Setters.{withMode, withRoute}
-use Rattle.counter.specs.Queue.{captured, popped}
-use Rattle.counter.specs.Preload.{allowed, preloaded, started}
-use Rattle.counter.specs.Advance.{Inputs, settled, step, advance}
 use Rattle.counter.specs.declared.Channel.{Channel}
-use Rattle.counter.specs.declared.Next.{Next}
+use Rattle.counter.proofs.Settings.{SameSettings, captured-same, popped-same, preloaded-same, started-same}
 use Rattle.ports.specs.declared.Pin.{Pin}
 use Rattle.control.specs.declared.Core.{Core}
 use Rattle.calls.specs.Reply.{Reply, reply, refuse, accept}
@@ -47,40 +43,7 @@ module _ {X : Type 0} {g : X → ℕ} {x : X} where
 
 -- ---- channels
 
--- d has the settings of c
-pub record SameSettings (c d : Channel) : Type 0 where
-  pub mode : d .mode ≡ c .mode
-  pub route : d .route ≡ c .route
-
 module _ (c : Channel) where
-  captured-same : (n t r : ℕ) (d : Channel) → SameSettings c d → SameSettings c (captured n t r d)
-  unfolding captured
-  captured-same n t r d a = either (SameSettings c) (ltb (d .held) 16) (record { mode = a .mode; route = a .route }) (record { mode = a .mode; route = a .route })
-
-  preloaded-same : (d : Channel) → SameSettings c d → SameSettings c (preloaded d)
-  unfolding preloaded
-  preloaded-same d a = either (SameSettings c) (allowed (d .mode) (d .count)) (record { mode = a .mode; route = a .route }) a
-
-  started-same : SameSettings c (started c)
-  unfolding started
-  started-same =
-      let same : SameSettings c c = record { mode = refl; route = refl } in
-      either (SameSettings c) (c .running) same
-      (either (SameSettings c) (TP (c .mode) 24) (preloaded-same _ (record { mode = refl; route = refl })) (record { mode = refl; route = refl }))
-
-  popped-same : SameSettings c (popped c)
-  unfolding popped
-  popped-same = record { mode = refl; route = refl }
-
-  settled-same : (now timestamp : ℕ) (n : Next) → SameSettings c (settled now timestamp n c)
-  unfolding settled
-  settled-same now timestamp n =
-      either (SameSettings c) (eqb (n .caught) 0) (record { mode = refl; route = refl }) (captured-same _ _ _ _ (record { mode = refl; route = refl }))
-
-  pub advance-same : (i : Inputs) → SameSettings c (advance i c)
-  unfolding advance step
-  advance-same i = settled-same (i .now) (i .timestamp) _
-
   -- u: it is call 1, w: it is call 4
   pub record SetChannel (u w : Bool) (v : ℕ) (r : Reply Channel) : Type 0 where
     pub mode : Sets (λ x. x .mode) u v c r
@@ -109,7 +72,7 @@ module _ (c : Channel) where
   read-set {u} {w} v h j =
       let S = SetChannel u w v in
       either S (ltb 0 (c .lost)) (kept h j (record { mode = refl; route = refl }))
-      (either S (eqb (c .held) 0) (refused u w v 5 refl) (kept h j popped-same))
+      (either S (eqb (c .held) 0) (refused u w v 5 refl) (kept h j (popped-same c)))
 
   pub channel-set : (t : ℕ) (e : Event) → SetChannel (eqb (e .kind) 1) (eqb (e .kind) 4) (e .v) (channelCall t e c)
   unfolding channelCall
@@ -122,10 +85,10 @@ module _ (c : Channel) where
       tested S (eqb k 3) (λ h. kept h1 (other k 3 4 h refl) (record { mode = refl; route = refl })) (λ _.
       tested S (eqb k 4) (λ h. rw (h1, h) (route-set (e .v))) (λ h4.
       either S (eqb k 5) (kept h1 h4 (record { mode = refl; route = refl }))
-      (either S (eqb k 6) (kept h1 h4 started-same)
+      (either S (eqb k 6) (kept h1 h4 (started-same c))
       (either S (eqb k 7) (kept h1 h4 (record { mode = refl; route = refl }))
-      (either S (eqb k 8) (kept h1 h4 (captured-same _ _ _ _ same))
-      (either S (eqb k 9) (kept h1 h4 (preloaded-same _ same))
+      (either S (eqb k 8) (kept h1 h4 (captured-same c _ _ _))
+      (either S (eqb k 9) (kept h1 h4 (preloaded-same c _ same))
       (either S (eqb k 10) (kept h1 h4 same)
       (either S (eqb k 11) (read-set (e .v) h1 h4)
       (kept h1 h4 same)))))))))))

@@ -10,6 +10,7 @@ use borrow.Author.Tests.{ltb-true, eqb-true, eqb-false, eq-eqb, ne-eqb}
 use Rattle.words.proofs.BitLaws.{bit-none}
 use Rattle.counter.specs.Repair.{noChannel, resetChannel}
 use Rattle.counter.specs.declared.Channel.{Channel}
+use Rattle.counter.proofs.Settings.{advance-same}
 use Rattle.ports.specs.Pins.{pinAt, sensed, driven, resetPins}
 use Rattle.ports.specs.declared.Pin.{Pin}
 use Rattle.control.specs.Safety.{guarded}
@@ -36,7 +37,7 @@ use Rattle.reach.proofs.RangedPins.{pin-sound, pin-ranged}
 use Rattle.isolation.specs.Settings.{Settings, untold, latest, told}
 use Rattle.isolation.proofs.Placed.{channels-placed, source-held, pins-placed}
 use Rattle.isolation.proofs.Told.{Told, settingsOf, settings-told}
-use Rattle.isolation.proofs.Sets.{setBy, advance-same, Sets, SetChannel, channel-set, pin-set, core-set}
+use Rattle.isolation.proofs.Sets.{setBy, Sets, SetChannel, channel-set, pin-set, core-set}
 use Rattle.isolation.proofs.Latest.{of-another-kind, not-accepted, on-it, put-told}
 
 -- ---- before the first event

@@ -12,6 +12,7 @@ use Rattle.counter.specs.Setters.{withQueue}
 use Rattle.counter.specs.Queue.{captured, popped}
 use Rattle.counter.specs.Repair.{isReasons, isHeld}
 use Rattle.counter.specs.declared.Channel.{Channel}
+use Rattle.counter.specs.declared.Capture.{Capture}
 use Rattle.counter.proofs.Same.{ChannelInRange}
 use Rattle.words.proofs.Cases.{tested}
 use Rattle.words.proofs.Tables.{length-tab, tab-keeps, getD-end, set-keeps}
@@ -43,10 +44,10 @@ module _ (c : Channel) (r : ChannelInRange c) where
   queued : (ns ts rs : List ℕ) (h : ℕ) → length rs ≡ 16 → ((i : ℕ) → i < 16 → isReasons (getD rs i 0) ≡ true) → isHeld h ≡ true → ChannelInRange (withQueue ns ts rs h c)
   queued ns ts rs h l k b = record { mode = r .mode; route = r .route; mask = r .mask; kept = r .kept; carry = r .carry; places = l; reasons = k; held = b }
 
-  pub captured-ranged : (n t q : ℕ) → isReasons q ≡ true → ChannelInRange (captured n t q c)
+  pub captured-ranged : (n t q : ℕ) → isReasons q ≡ true → ChannelInRange (captured n t q c .channel)
   unfolding captured
   captured-ranged n t q b =
-      tested ChannelInRange (ltb (c .held) 16)
+      tested (λ (told : Capture). ChannelInRange (told .channel)) (ltb (c .held) 16)
       (λ h. queued _ _ _ _ (length-set (c .reasons) (c .held) q ∙ r .places)
       (λ i k. set-keeps (λ n. isReasons n ≡ true) (c .reasons) (c .held) q 0 i (r .reasons i k) b)
       (lt-ltb (c .held + 1) 17 (omega (arith, ltb-true (c .held) 16 h))))

@@ -12,11 +12,12 @@ use Rattle.words.proofs.BitLaws.{word-lt}
 use Rattle.counter.specs.Samples.{samples}
 use Rattle.counter.specs.Difference.{isUp, isDown, moved, carryOf}
 use Rattle.counter.specs.Setters.{withStep}
-use Rattle.counter.specs.Advance.{Inputs, look, counted, masked, nextOf, settled, step, advance}
+use Rattle.counter.specs.Advance.{Inputs, look, counted, masked, nextOf, recorded, settled, step, advance}
 use Rattle.counter.specs.Repair.{isReasons, isKept, isCarry}
 use Rattle.counter.specs.declared.Channel.{Channel}
 use Rattle.counter.specs.declared.Seen.{Seen}
 use Rattle.counter.specs.declared.Next.{Next}
+use Rattle.counter.specs.declared.Capture.{Capture}
 use Rattle.counter.proofs.Same.{ChannelInRange}
 use Rattle.words.proofs.Cases.{either}
 use Rattle.reach.proofs.RangedQueue.{captured-ranged}
@@ -45,15 +46,17 @@ next-ranged now seen c = record { caught = lt-ltb _ _ (word-lt 9 _); carry = car
 
 -- ---- the record with them
 
+moved-on : (c : Channel) → ChannelInRange c → (n : ℕ) (d : ℤ) (a s x : Bool) (k : ℕ) → isCarry d ≡ true → isKept k ≡ true → ChannelInRange (withStep n d a s x k c)
+moved-on c r n d a s x k h b = record { mode = r .mode; route = r .route; mask = r .mask; kept = b; carry = h; places = r .places; reasons = r .reasons; held = r .held }
+
 module _ (c : Channel) (r : ChannelInRange c) where
-  moved-on : (n : ℕ) (d : ℤ) (a s x : Bool) (k : ℕ) → isCarry d ≡ true → isKept k ≡ true → ChannelInRange (withStep n d a s x k c)
-  moved-on n d a s x k h b = record { mode = r .mode; route = r .route; mask = r .mask; kept = b; carry = h; places = r .places; reasons = r .reasons; held = r .held }
+  recorded-ranged : (timestamp : ℕ) (n : Next) → NextInRange n → ChannelInRange (recorded timestamp n c .channel)
+  recorded-ranged timestamp n q =
+      either (λ (told : Capture). ChannelInRange (told .channel)) (eqb (n .caught) 0) r (captured-ranged c r (n .seen) timestamp (n .caught) (q .caught))
 
   settled-ranged : (now timestamp : ℕ) (n : Next) → isKept now ≡ true → NextInRange n → ChannelInRange (settled now timestamp n c)
   unfolding settled
-  settled-ranged now timestamp n b q =
-      let next = moved-on (n .count) (n .carry) (n .armed) (n .second) (n .extout) now (q .carry) b in
-      either ChannelInRange (eqb (n .caught) 0) next (captured-ranged _ next (n .seen) timestamp (n .caught) (q .caught))
+  settled-ranged now timestamp n b q = moved-on _ (recorded-ranged timestamp n q) (n .count) (n .carry) (n .armed) (n .second) _ now (q .carry) b
 
   pub advance-ranged : (i : Inputs) → isKept (i .now) ≡ true → ChannelInRange (advance i c)
   unfolding advance step

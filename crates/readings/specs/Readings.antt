@@ -1,4 +1,5 @@
--- Document 01, "Bench readings", a to j: lists of events from reset, what is then looked at, and the numbers that are read.
+-- Document 01, "Bench readings", a to j, and what request 1 changed: lists of events from reset, what is then looked at, and the numbers that are
+-- read.
 -- Assumes nothing.
 use mathlib.Core.List.{List, [], _∷_, _++_, map}
 use Prim.Native.Nat.{ℕ, zero, suc}
@@ -102,6 +103,10 @@ entries (suc n) = 0 ∷ 0 ∷ 0 ∷ 128 ∷ entries n
 unfoldable pub pulses : List Event
 pulses = call 1 0 0x01682030 ∷ call 2 0 2 ∷ preload1 0 3 ∷ call 6 0 0 ∷ []
 
+-- request 1: channel 0 in mode 0x40030, OM 1, with n captures held, compare 0 at 2 and mask 1, started
+unfoldable pub heads : ℕ → List Event
+heads n = replicate n (call 8 0 0) ++ (call 1 0 0x40030 ∷ call 3 0 2 ∷ call 5 0 1 ∷ call 6 0 0 ∷ [])
+
 -- ---- the table
 
 unfoldable pub table : List Reading
@@ -136,4 +141,9 @@ table =
     -- j
     ∷ reading [] (answer (call 25 0 0)) (3 ∷ 0 ∷ 0 ∷ 0 ∷ [])
     ∷ reading [] (answer (call 25 0 1)) (0 ∷ 0 ∷ 0 ∷ 0 ∷ [])
+    -- request 1: room for the entry of the match, no room, no room after a 6, room after an entry was read
+    ∷ reading (heads 15) (extouts 0 (steps 3)) (0 ∷ 1 ∷ 0 ∷ [])
+    ∷ reading (heads 16) (extouts 0 (steps 3)) (0 ∷ 0 ∷ 0 ∷ [])
+    ∷ reading (heads 16 ++ steps 3 ++ (call 11 0 0 ∷ call 3 0 4 ∷ [])) (extouts 0 (steps 2)) (0 ∷ 0 ∷ [])
+    ∷ reading (heads 16 ++ steps 3 ++ (call 11 0 0 ∷ call 11 0 0 ∷ call 3 0 4 ∷ [])) (extouts 0 (steps 2)) (1 ∷ 0 ∷ [])
     ∷ []

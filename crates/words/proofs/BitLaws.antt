@@ -87,6 +87,10 @@ unfolding word some
 word-some zero f = refl
 word-some (suc n) f = one-more (f zero) (word n (λ i. f (suc i))) ∙ ap (λ t. f zero || t) (word-some n (λ i. f (suc i)))
 
+-- and so is a number cut to n bits
+pub is-some : (n v : ℕ) (f : ℕ → Bool) → ((i : ℕ) → i < n → bit v i ≡ f i) → not (eqb (v % 2 ^ n) 0) ≡ some n f
+is-some n v f h = ap (λ m. not (eqb m 0)) (is-word n v f h) ∙ word-some n f
+
 -- ---- the operations, bit by bit
 
 pub bit-and : (a b i : ℕ) → bit (bitAnd a b) i ≡ (bit a i && bit b i)

@@ -15,14 +15,11 @@ masked-requires c κs = search needs
 load-requires : tie.Need-load-requires
 load-requires c κs = search needs
 
-output-requires : tie.Need-output-requires
-output-requires c κs = search needs
-
 returns : tie.Need-returns
 unfolding nextOf
-returns c = let k = c .before .before .before .before .count-on in
-    rw (back (k .result .carry) (c .struct-told .given .1 .1 .0 .1), c .before .output .ensures, c .before .before .load .ensures, c .before .before .before .masked .ensures, k .ensures)
+returns c = let k = c .before .before .before .count-on in
+    rw (back (k .result .carry) (c .struct-told .given .1 .1 .0 .1), c .before .load .ensures, c .before .before .masked .ensures, k .ensures)
 
 pub next-spec : {M : Type 1} → statement M
 next-spec =
-    tie.close (tie.spec count-on-requires masked-requires load-requires output-requires returns)
+    tie.close (tie.spec count-on-requires masked-requires load-requires returns)

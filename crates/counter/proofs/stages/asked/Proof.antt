@@ -9,7 +9,7 @@ use lib.Bits.{bitAnd}
 use Rattle.words.specs.Bits.{bit}
 use Rattle.counter.specs.Mode.{TP}
 use Rattle.counter.specs.Advance.{asked}
-use Rattle.words.proofs.BitLaws.{bit-word, is-word, bit-and, word-some}
+use Rattle.words.proofs.BitLaws.{bit-word, bit-and, is-some}
 use borrow.Author.Needs.{needs}
 use Rattle.counter.proofs.stages.asked.Statement.{statement}
 use Rattle.counter.proofs.stages.asked.Tie as tie
@@ -19,8 +19,7 @@ asks : (m w reasons : ℕ) (high : Bool) → w ≡ word 5 (λ j. TP m (11 + j)) 
 unfolding asked
 asks m w reasons high e =
     ap (λ t. t || (TP m 16 && high))
-    (ap (λ n. not (eqb n 0)) (is-word 5 (bitAnd w reasons) (λ j. TP m (11 + j) && bit reasons j) (λ j h. bit-and w reasons j ∙ ap (λ t. t && bit reasons j) (ap (λ n. bit n j) e ∙ bit-word 5 (λ i. TP m (11 + i)) j h)))
-    ∙ word-some 5 (λ j. TP m (11 + j) && bit reasons j))
+    (is-some 5 (bitAnd w reasons) (λ j. TP m (11 + j) && bit reasons j) (λ j h. bit-and w reasons j ∙ ap (λ t. t && bit reasons j) (ap (λ n. bit n j) e ∙ bit-word 5 (λ i. TP m (11 + i)) j h)))
 
 tp-reasons-requires : tie.Need-tp-reasons-requires
 tp-reasons-requires c κs = search needs

@@ -1,0 +1,1 @@
+// What the requests say of the machine that they amend: no code, only the theorems.
