@@ -192,6 +192,8 @@ impl<M: Mode> Board<M> {
     pub fn step(&mut self, v: u32, w: u64) {
         let ticks = self.tick();
         self.pins.level = w | self.pins.driven;
+        self.watchdog.step();
+        self.safemode |= self.is_triggered();
         let scene = Scene {
             timestamp: self.timestamp,
             timestamp_rises: ticks != 0,
@@ -199,8 +201,6 @@ impl<M: Mode> Board<M> {
             ticks,
             inputs: self.pins.level | self.virtuals.levels(self.safemode) << PINS,
         };
-        self.watchdog.step();
-        self.safemode |= self.is_triggered();
         self.extouts = M::step(&mut self.channels, v, &scene);
         self.pins.drive(self.extouts, self.safemode);
     }

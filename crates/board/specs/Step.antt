@@ -18,8 +18,8 @@ use Rattle.board.specs.Inputs.{extouts, allNext}
 use Rattle.board.specs.declared.Scene.{Scene}
 use Rattle.board.specs.declared.Board.{Board}
 
--- what every channel can see: the lines of this step, the ExtOuts of the last, the clock and the pins' levels of this step, and the virtual
--- outputs' levels by the safemode that stood before the step
+-- what every channel can see: the lines of this step, the ExtOuts of the last, the clock, and the levels of the pins and of the virtual outputs
+-- in this step
 unfoldable pub sceneOf : ℕ → ℕ → Clock → ℕ → ℕ → Scene
 sceneOf v outs clock levels virtuals =
     record {
@@ -31,6 +31,12 @@ sceneOf v outs clock levels virtuals =
       timestamp = clock .timestamp;
       rises = risesAt (clock .prescaler);
     }
+
+-- the same in a step on the board b, of which part 2 has made these pins and parts 1, 3 and 4 this core: the virtual outputs go by the safemode that
+-- part 4 has found (request 2)
+abbrev pub sceneIn : ℕ → Pins → Core → Board → Scene
+sceneIn v pins core b =
+    sceneOf v (extouts (b .channels)) (core .clock) (pins .level) (virtualLevels (core .safety .safemode) (b .virtuals))
 
 -- parts 1, 3 and 4: the clock, the watchdog, then safemode
 unfoldable pub coreNext : Bool → Core → Core
@@ -46,8 +52,7 @@ stepWith sense v w b =
     -- parts 1, 3 and 4
     let core : Core = coreNext (bit (pins .level) 47) (b .core) in
     -- part 5
-    let virtuals : ℕ = virtualLevels (b .core .safety .safemode) (b .virtuals) in
-    let channels : List Channel = allNext (sceneOf v (extouts (b .channels)) (core .clock) (pins .level) virtuals) (b .channels) in
+    let channels : List Channel = allNext (sceneIn v pins core b) (b .channels) in
     -- part 6
     record {
       channels = channels;

@@ -135,7 +135,7 @@ impl Board {
         let own = self.core;
         let core = advance_core(own, words::bit(pins.level, TRIGGER));
         let outputs = self.virtuals;
-        let virtuals = outputs.levels(own.safety.safemode);
+        let virtuals = outputs.levels(core.safety.safemode);
         let old = self.channels;
         let clock = core.clock;
         let s = scene(v, extouts(old), clock, pins.level, virtuals);

@@ -185,9 +185,12 @@ impl Safety {
         ensures { λ r. ⌜ r ≡ guarded expired pin47 self ⌝ }
     {
         let c = self.control;
-        self.safemode = self.safemode
-            | (watchdog_triggers(c) & expired)
-            | (pin_triggers(c) & (pin47 == active_level(c)));
+        if watchdog_triggers(c) {
+            self.safemode = self.safemode | expired;
+        }
+        if pin_triggers(c) {
+            self.safemode = self.safemode | (pin47 == active_level(c));
+        }
         self
     }
 

@@ -25,7 +25,7 @@ use Rattle.control.specs.Watchdog.{watched}
 use Rattle.control.specs.declared.Safety.{Safety}
 use Rattle.control.specs.declared.Core.{Core}
 use Rattle.board.specs.Inputs.{channelIn, neighbour, extouts, indexOf, carriedBy, samplesOf, inputsOf, channelNext, allNext}
-use Rattle.board.specs.Step.{sceneOf, coreNext, stepWith, stepped}
+use Rattle.board.specs.Step.{sceneOf, sceneIn, coreNext, stepWith, stepped}
 use Rattle.board.specs.declared.Board.{Board}
 use Rattle.board.specs.declared.Scene.{Scene}
 use Rattle.words.proofs.Tables.{getD-tab}
@@ -136,7 +136,11 @@ module _ (M : Members) where
     abbrev level : ℕ → Board → ℕ
     level u z = word 48 (pinLevel (z .pins) u)
 
-    core-same : coreNext (bit (level w b) 47) (b .core) ≡ coreNext (bit (level x h) 47) (h .core)
+    -- the board's own part as the step leaves it
+    abbrev found : ℕ → Board → Core
+    found u z = coreNext (bit (level u z) 47) (z .core)
+
+    core-same : found w b ≡ found x h
     unfolding coreNext
     core-same =
         ap (λ s. record { clock = advanced (b .core .clock); watchdog = watched (b .core .watchdog); safety = s })
@@ -144,10 +148,10 @@ module _ (M : Members) where
         (λ e. levels-same 47 (omega arith) (closed .triggering (let f : pinTriggers (t .control) ≡ true = rw (sym (told .control)) e in f))))
         ∙ ap (coreNext (bit (level x h) 47)) (seen .core)
 
-    virtuals-same : Agree 6 bit (M .isVirtual) (virtualLevels (b .core .safety .safemode) (b .virtuals)) (virtualLevels (h .core .safety .safemode) (h .virtuals))
+    virtuals-same : Agree 6 bit (M .isVirtual) (virtualLevels (found w b .safety .safemode) (b .virtuals)) (virtualLevels (found x h .safety .safemode) (h .virtuals))
     unfolding virtualLevels
     virtuals-same =
-        words-agree 6 (M .isVirtual) _ _ (λ o k m. λ i. virtualLevel (seen .core i .safety .safemode) (seen .virtuals o k m i))
+        words-agree 6 (M .isVirtual) _ _ (λ o k m. λ i. virtualLevel (core-same i .safety .safemode) (seen .virtuals o k m i))
 
     extouts-same : (cs ds : List Channel) → Agree 6 channelIn (M .isChannel) cs ds → Agree 6 bit (M .isChannel) (extouts cs) (extouts ds)
     unfolding extouts
@@ -155,12 +159,10 @@ module _ (M : Members) where
 
     -- what the channels of a board see
     abbrev scene : ℕ → ℕ → Board → Scene
-    scene l u z =
-        sceneOf l (extouts (z .channels)) (coreNext (bit (level u z) 47) (z .core) .clock) (level u z)
-        (virtualLevels (z .core .safety .safemode) (z .virtuals))
+    scene l u z = sceneIn l (sensed u (z .pins)) (found u z) z
 
     scene-same : SameScene (scene v w b) (scene y x h)
-    unfolding sceneOf
+    unfolding sceneOf sensed
     scene-same = record {
       lines = lines;
       outs = extouts-same (b .channels) (h .channels) (seen .channels);

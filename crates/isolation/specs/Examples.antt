@@ -32,7 +32,7 @@ unfoldable pub group : Members
 group = members (0 ∷ 1 ∷ []) (7 ∷ 47 ∷ []) (2 ∷ [])
 
 -- The settings use every clause. Channel 0 counts steps while virtual output 2 is high, from 4294967295 on; channel 1 counts its carries and captures
--- the edges of its ExtOut; pin 7 shows ExtOut of channel 1 and is its ExtIn; a high pin 47 sets safemode.
+-- the edges of its ExtOut; pin 7 shows ExtOut of channel 1 and is its ExtIn; a high pin 47 sets safemode, and virtual output 2 is low in that step.
 unfoldable pub setup : List Event
 setup =
     call 22 0 3 ∷ call 18 2 1
@@ -73,7 +73,7 @@ given =
     ∷ number 0 0
     ∷ number 0 1 ∷ number 5 0
     ∷ number 0 0 ∷ number 0 0
-    ∷ number 0 3 ∷ number 0 1 ∷ number 0 0 ∷ number 0 0 ∷ [])
+    ∷ number 0 2 ∷ number 0 1 ∷ number 0 0 ∷ number 0 0 ∷ [])
 
 -- different lists to which the claim applies, and what it then says, computed
 pub record Example (M : Members) (es fs : List Event) (xs : List Answer) : Type 0 where

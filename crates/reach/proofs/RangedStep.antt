@@ -1,14 +1,13 @@
 -- A step keeps a channel in range.
 -- Assumes nothing.
 use mathlib.Core.Path.{_≡_, refl}
-use mathlib.Core.Bool.{Bool, true, false, _&&_}
-use Prim.Native.Nat.{ℕ, _<_}
+use mathlib.Core.Bool.{Bool, true, _&&_}
+use Prim.Native.Nat.{ℕ}
 use native.Mathlib.Omega.{arith}
 use lib.Dec.{eqb, ltb}
 use lib.IntN.{ℤ}
 use borrow.Author.Tests.{lt-ltb}
-use Rattle.words.specs.Bits.{flag}
-use Rattle.words.proofs.BitLaws.{word-lt}
+use Rattle.words.proofs.BitLaws.{flag-lt, word-lt}
 use Rattle.counter.specs.Samples.{samples}
 use Rattle.counter.specs.Difference.{isUp, isDown, moved, carryOf}
 use Rattle.counter.specs.Setters.{withStep}
@@ -21,10 +20,6 @@ use Rattle.counter.specs.declared.Capture.{Capture}
 use Rattle.counter.proofs.Same.{ChannelInRange}
 use Rattle.words.proofs.Cases.{either}
 use Rattle.reach.proofs.RangedQueue.{captured-ranged}
-
-flag-lt : (t : Bool) → flag t < 2
-flag-lt true = omega arith
-flag-lt false = omega arith
 
 pub samples-kept : (a b x e : Bool) → isKept (samples a b x e) ≡ true
 samples-kept a b x e = lt-ltb (samples a b x e) 16 (omega (arith, flag-lt a, flag-lt b, flag-lt x, flag-lt e))

@@ -1,8 +1,8 @@
--- Document 01, "Bench readings", a to j, and what request 1 changed: lists of events from reset, what is then looked at, and the numbers that are
--- read.
+-- Document 01, "Bench readings", a to j, and what requests 1 and 2 changed: lists of events from reset, what is then looked at, and the numbers that
+-- are read.
 -- Assumes nothing.
 use mathlib.Core.List.{List, [], _∷_, _++_, map}
-use Prim.Native.Nat.{ℕ, zero, suc}
+use Prim.Native.Nat.{ℕ, zero, suc, _^_}
 use lib.ListN.{replicate}
 use Rattle.words.specs.Bits.{flag}
 use Rattle.calls.specs.Events.{call, lines}
@@ -107,6 +107,18 @@ pulses = call 1 0 0x01682030 ∷ call 2 0 2 ∷ preload1 0 3 ∷ call 6 0 0 ∷ 
 unfoldable pub heads : ℕ → List Event
 heads n = replicate n (call 8 0 0) ++ (call 1 0 0x40030 ∷ call 3 0 2 ∷ call 5 0 1 ∷ call 6 0 0 ∷ [])
 
+-- request 2: channel 0 in mode m, with the route to virtual output 0, which is high, started
+unfoldable pub gate : ℕ → List Event
+gate m = call 18 0 1 ∷ call 1 0 m ∷ call 4 0 48 ∷ call 6 0 0 ∷ []
+
+-- request 2: a high pin 47 sets safemode
+abbrev pub button : Event
+button = call 22 0 3
+
+-- request 2: a step with the button on pin 47 pressed
+abbrev pub pressed : Event
+pressed = lines 0 (2 ^ 47)
+
 -- ---- the table
 
 unfoldable pub table : List Reading
@@ -146,4 +158,12 @@ table =
     ∷ reading (heads 16) (extouts 0 (steps 3)) (0 ∷ 0 ∷ 0 ∷ [])
     ∷ reading (heads 16 ++ steps 3 ++ (call 11 0 0 ∷ call 3 0 4 ∷ [])) (extouts 0 (steps 2)) (0 ∷ 0 ∷ [])
     ∷ reading (heads 16 ++ steps 3 ++ (call 11 0 0 ∷ call 11 0 0 ∷ call 3 0 4 ∷ [])) (extouts 0 (steps 2)) (1 ∷ 0 ∷ [])
+    -- request 2: the gate closes in the step of the button, and in the step in which the watchdog expires
+    ∷ reading (gate 0x02000030 ++ steps 3 ++ (button ∷ pressed ∷ [])) (count 0) (3 ∷ [])
+    ∷ reading (gate 0x02000030 ++ (call 25 0 4 ∷ call 26 0 1 ∷ call 22 0 4 ∷ []) ++ steps 4) (count 0) (3 ∷ [])
+    -- call 24 with the button held, then released
+    ∷ reading (gate 0x02000030 ++ (button ∷ pressed ∷ call 24 0 0 ∷ pressed ∷ [])) (count 0) (0 ∷ [])
+    ∷ reading (gate 0x02000030 ++ (button ∷ pressed ∷ call 24 0 0 ∷ lines 0 0 ∷ [])) (count 0) (1 ∷ [])
+    -- the edge is captured in the step of the button
+    ∷ reading (gate 0x30 ++ (call 5 0 32 ∷ []) ++ steps 3 ++ (button ∷ pressed ∷ [])) (answer (call 11 0 0)) (0 ∷ 4 ∷ 0 ∷ 32 ∷ [])
     ∷ []

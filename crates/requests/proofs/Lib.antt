@@ -1,1 +1,3 @@
+pub mod Steps
 pub mod Pulse
+pub mod Safe

@@ -19,16 +19,15 @@ use Rattle.counter.specs.declared.Channel.{Channel}
 use Rattle.counter.specs.declared.Capture.{Capture}
 use Rattle.counter.specs.declared.Next.{Next}
 use Rattle.counter.proofs.Same.{ChannelInRange, channel-fields}
-use Rattle.calls.specs.Fields.{isStep}
 use Rattle.board.specs.Inputs.{channelIn, channelNext, allNext}
 use Rattle.board.specs.Step.{stepWith, stepped}
-use Rattle.board.specs.Respond.{respond}
 use Rattle.board.specs.Handed.{inRange}
 use Rattle.board.specs.declared.Board.{Board}
-use Rattle.board.proofs.Same.{InRange, board-fields}
-use Rattle.board.proofs.Steps.{of-step, of-refused-step}
+use Rattle.board.proofs.Same.{InRange, board-fields, board-repaired}
 use Rattle.reach.proofs.Reach.{demand2}
-use Rattle.requests.specs.Pulse.{lastReasons, EntryOfMatch, Pulse, OnBoard, Request1}
+use Rattle.requests.specs.Pulse.{lastReasons, EntryOfMatch, Pulse, OnBoards, Request1}
+use Rattle.requests.specs.Steps.{InSteps}
+use Rattle.requests.proofs.Steps.{in-steps, in-steps-handed}
 
 -- a stored capture is the last entry of a queue that is longer by one; after another the queue is as long as before
 abbrev Stored : Channel → ℕ → Capture → Type 0
@@ -96,23 +95,17 @@ channel-pulse c r om i = settled-pulse c r (i .timestamp) (nextOf (i .now) (look
 
 -- ---- in an accepted step of a board
 
-stepped-pulse : (b : Board) → InRange b → (v w c : ℕ) → c < 6 → OM (channelIn (b .channels) c .mode) ≡ 1
-    → Pulse (channelIn (b .channels) c) (channelIn (stepped v w b .channels) c)
+stepped-pulse : (b : Board) → InRange b → (v w : ℕ) → OnBoards b (stepped v w b)
 unfolding stepped stepWith allNext channelNext
 stepped-pulse b r v w c h om = rw getD-tab (channel-pulse (channelIn (b .channels) c) (r .channels c h) om _)
 
-board-pulse : (b : Board) → inRange b ≡ true → OnBoard b
-board-pulse b r e k a c h om = go (isStep e) refl
-  where
-    go : (t : Bool) → isStep e ≡ t → Pulse (channelIn (b .channels) c) (channelIn (respond b e .state .channels) c)
-    go true s = rw (of-step b e s) (stepped-pulse b (board-fields b r) (e .v) (e .w) c h om)
-    go false s =
-        let three : _≡_ {A = ℕ} 3 0 = rw (of-refused-step b e s k) at a in
-        absurd (omega arith)
+board-pulse : (b : Board) → inRange b ≡ true → InSteps OnBoards b
+board-pulse b r = in-steps OnBoards b (stepped-pulse b (board-fields b r))
 
 pub request1 : Request1
 request1 = record {
   channels = λ c r. channel-pulse c (channel-fields c r);
   boards = board-pulse;
+  handed = λ b. in-steps-handed OnBoards b (board-pulse _ (board-repaired b));
   lists = λ es. board-pulse _ (demand2 .1 es .last);
 }

@@ -18,6 +18,7 @@ use Rattle.board.specs.Respond.{respond}
 use Rattle.board.specs.Handed.{resetBoard, inRange}
 use Rattle.board.specs.Runs.{finish}
 use Rattle.board.specs.declared.Board.{Board}
+use Rattle.requests.specs.Steps.{InSteps, InStepsHanded}
 
 -- the reasons of the entry that came last
 abbrev pub lastReasons : Channel → ℕ
@@ -36,14 +37,14 @@ Pulse before after = (after .extout ≡ not (OP (before .mode))) ↔ EntryOfMatc
 abbrev pub OnChannels : Type 0
 OnChannels = (c : Channel) → channelInRange c ≡ true → OM (c .mode) ≡ 1 → (i : Inputs) → Pulse c (advance i c)
 
--- each channel in an accepted step of a board
-abbrev pub OnBoard : Board → Type 0
-OnBoard b =
-    (e : Event) → e .kind ≡ 0 → respond b e .answer .result ≡ 0 → (c : ℕ) → c < 6 → OM (channelIn (b .channels) c .mode) ≡ 1
-    → Pulse (channelIn (b .channels) c) (channelIn (respond b e .state .channels) c)
+-- each channel of a board
+abbrev pub OnBoards : Board → Board → Type 0
+OnBoards b after =
+    (c : ℕ) → c < 6 → OM (channelIn (b .channels) c .mode) ≡ 1 → Pulse (channelIn (b .channels) c) (channelIn (after .channels) c)
 
--- every board in range, and after every list of events from reset
+-- every board in range, every board handed in, and after every list of events from reset
 pub record Request1 : Type 0 where
   pub channels : OnChannels
-  pub boards : (b : Board) → inRange b ≡ true → OnBoard b
-  pub lists : (es : List Event) → OnBoard (finish respond resetBoard es)
+  pub boards : (b : Board) → inRange b ≡ true → InSteps OnBoards b
+  pub handed : (b : Board) → InStepsHanded OnBoards b
+  pub lists : (es : List Event) → InSteps OnBoards (finish respond resetBoard es)

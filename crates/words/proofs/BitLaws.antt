@@ -12,6 +12,10 @@ use lib.Pow.{pow-pos, shl-exact}
 use borrow.Author.Tests.{ne-eqb}
 use Rattle.words.specs.Bits.{bit, flag, word, some}
 
+pub flag-lt : (t : Bool) → flag t < 2
+flag-lt true = omega arith
+flag-lt false = omega arith
+
 -- ---- a number by its lowest bit and its half
 
 bit-suc : (v i : ℕ) → bit v (suc i) ≡ bit (v / 2) i
