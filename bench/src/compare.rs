@@ -251,10 +251,12 @@ fn same_core(m: &proved::Core, p: &proved::Core) -> Result<(), String> {
     same("prescaler", m.clock.prescaler, p.clock.prescaler)?;
     same("timestamp", m.clock.timestamp, p.clock.timestamp)?;
     let (a, b) = (&m.watchdog, &p.watchdog);
-    same("interval", a.interval, b.interval)?;
-    same("rest", a.rest, b.rest)?;
-    same("enabled", a.enabled, b.enabled)?;
+    for stage in 0..model::STAGES {
+        same("interval", a.intervals[stage], b.intervals[stage])?;
+        same("rest", a.rests[stage], b.rests[stage])?;
+    }
     same("expired", a.expired, b.expired)?;
+    same("enabled", a.enabled, b.enabled)?;
     let (a, b) = (&m.safety, &p.safety);
     same("control", a.control, b.control)?;
     same("writes", a.writes, b.writes)?;
@@ -293,10 +295,15 @@ fn view<M: Mode>(b: &Board<M>) -> proved::Board {
                 timestamp: b.timestamp,
             },
             watchdog: proved::Watchdog {
-                interval: b.watchdog.interval,
-                rest: b.watchdog.rest,
+                intervals: b.watchdog.stages.map(|stage| stage.interval),
+                rests: b.watchdog.stages.map(|stage| stage.rest),
+                expired: b
+                    .watchdog
+                    .stages
+                    .map(|stage| stage.expired as u32)
+                    .iter()
+                    .sum(),
                 enabled: b.watchdog.enabled,
-                expired: b.watchdog.expired,
             },
             safety: proved::Safety {
                 control: b.control,

@@ -171,8 +171,13 @@ impl History {
         self.call(22, 0, control);
         if self.random.once_in(2) {
             self.call(26, 0, 0);
-            let interval = 1 + self.random.of(&[0, 1, 7, 40]);
-            self.call(25, 0, interval);
+            for stage in 0..3 {
+                let interval = 1 + self.random.of(&[0, 1, 7, 40]);
+                self.events.push(Event {
+                    selector: stage,
+                    ..Event::call(25, 0, interval)
+                });
+            }
             self.call(26, 0, 1);
         }
         if self.random.once_in(2) {
@@ -185,10 +190,10 @@ impl History {
         let kind = 1 + self.random.below(29) as u8;
         let member = self.member(kind);
         let v = self.argument(kind);
-        let selector = if matches!(kind, 2 | 3) {
-            self.random.below(2) as u8
-        } else {
-            0
+        let selector = match kind {
+            2 | 3 => self.random.below(2) as u8,
+            25 => self.random.below(3) as u8,
+            _ => 0,
         };
         Event {
             selector,
@@ -239,7 +244,7 @@ impl History {
         let some = self.random.next();
         match self.random.below(12) {
             0 => e.member = self.random.of(&[1, 5, 6, 47, 48, 255]),
-            1 => e.selector = self.random.of(&[1, 2, 255]),
+            1 => e.selector = self.random.of(&[1, 2, 3, 255]),
             2 => e.spare = self.random.of(&[1, 128]),
             3..=6 => e.v = self.bad_argument(e.kind),
             7 => e.v = some as u32,
@@ -249,7 +254,7 @@ impl History {
             _ => {
                 e.kind = some as u8 % 32;
                 e.member = (some >> 8) as u8 % 50;
-                e.selector = (some >> 16) as u8 % 3;
+                e.selector = (some >> 16) as u8 % 4;
                 e.spare = (some >> 24) as u8 % 2;
                 e.v = (some >> 32) as u32;
             }

@@ -32,6 +32,8 @@ const PERIODS: [u32; 8] = [
     50,
 ];
 const INTERVAL: u32 = 50_000_000;
+/// The stages of the watchdog.
+pub const STAGES: usize = 3;
 /// Words with the bit of every pin, of every virtual output.
 const ALL_PINS: u64 = (1 << PINS) - 1;
 const ALL_VIRTUALS: u64 = (1 << VIRTUALS) - 1;
@@ -102,24 +104,55 @@ impl Virtuals {
 }
 
 #[derive(Clone, Copy)]
-pub struct Watchdog {
+pub struct Stage {
     pub interval: u32,
     pub rest: u32,
-    pub enabled: bool,
     pub expired: bool,
 }
 
-impl Watchdog {
+impl Stage {
+    fn reset() -> Stage {
+        Stage {
+            interval: INTERVAL,
+            rest: 0,
+            expired: false,
+        }
+    }
+
     fn step(&mut self) {
-        if self.enabled && self.rest > 0 {
+        if self.rest > 0 {
             self.rest -= 1;
             self.expired |= self.rest == 0;
         }
     }
+}
+
+#[derive(Clone, Copy)]
+pub struct Watchdog {
+    pub stages: [Stage; STAGES],
+    pub enabled: bool,
+}
+
+impl Watchdog {
+    /// From the last stage down, so that each finds the mark that the one before it had before the
+    /// step.
+    fn step(&mut self) {
+        if !self.enabled {
+            return;
+        }
+        for stage in (1..STAGES).rev() {
+            if self.stages[stage - 1].expired {
+                self.stages[stage].step();
+            }
+        }
+        self.stages[0].step();
+    }
 
     fn kick(&mut self) {
-        self.rest = self.interval;
-        self.expired = false;
+        for stage in &mut self.stages {
+            stage.rest = stage.interval;
+            stage.expired = false;
+        }
     }
 
     fn enable(&mut self, on: bool) {
@@ -160,10 +193,8 @@ impl<M: Mode> Board<M> {
             prescaler: 0,
             timestamp: 0,
             watchdog: Watchdog {
-                interval: INTERVAL,
-                rest: 0,
+                stages: [Stage::reset(); STAGES],
                 enabled: false,
-                expired: false,
             },
             control: 0,
             writes: false,
@@ -230,7 +261,7 @@ impl<M: Mode> Board<M> {
         let by_pin47 = self.control & 1 != 0;
         let active = self.control >> 1 & 1;
         let pin47 = (self.pins.level >> 47) as u32 & 1;
-        by_watchdog && self.watchdog.expired || by_pin47 && pin47 == active
+        by_watchdog && self.watchdog.stages[0].expired || by_pin47 && pin47 == active
     }
 
     fn on_channel(&mut self, e: &Event) -> Answer {
@@ -309,7 +340,7 @@ impl<M: Mode> Board<M> {
             23 => self.writes = e.v != 0,
             24 => self.safemode = false,
             25 if self.watchdog.enabled => return refused(7),
-            25 => self.watchdog.interval = e.v,
+            25 => self.watchdog.stages[e.selector as usize % STAGES].interval = e.v,
             26 => self.watchdog.enable(e.v != 0),
             27 => self.watchdog.kick(),
             28 => return tell(self.timestamp),
@@ -319,10 +350,13 @@ impl<M: Mode> Board<M> {
     }
 
     fn status(&self) -> u32 {
+        let [first, second, third] = self.watchdog.stages.map(|stage| stage.expired as u32);
         self.safemode as u32
-            | (self.watchdog.expired as u32) << 1
+            | first << 1
             | (self.writes as u32) << 2
             | (self.watchdog.enabled as u32) << 3
+            | second << 4
+            | third << 5
     }
 }
 
@@ -364,8 +398,12 @@ fn is_good_step(e: &Event) -> bool {
 
 /// Whether the fields of a call fit, the member apart.
 fn fits(e: &Event) -> bool {
-    let selectors = matches!(e.kind, 2 | 3) as u8;
-    if e.spare != 0 || e.selector > selectors || e.w != 0 {
+    let selectors = match e.kind {
+        2 | 3 => 2,
+        25 => STAGES as u8,
+        _ => 1,
+    };
+    if e.spare != 0 || e.selector >= selectors || e.w != 0 {
         return false;
     }
     match e.kind {

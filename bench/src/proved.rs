@@ -55,10 +55,10 @@ pub struct Clock {
 #[repr(C)]
 #[derive(Clone, Copy)]
 pub struct Watchdog {
-    pub interval: u32,
-    pub rest: u32,
+    pub intervals: [u32; 3],
+    pub rests: [u32; 3],
+    pub expired: u32,
     pub enabled: bool,
-    pub expired: bool,
 }
 
 #[repr(C)]
@@ -86,7 +86,7 @@ pub struct Board {
     pub core: Core,
 }
 
-const _: () = assert!(std::mem::size_of::<Board>() == 1608);
+const _: () = assert!(std::mem::size_of::<Board>() == 1624);
 
 /// What one event leaves.
 #[repr(C)]

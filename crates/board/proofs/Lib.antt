@@ -2,3 +2,4 @@ pub mod Checks
 pub mod Steps
 pub mod Same
 pub mod Kept
+pub mod Classes

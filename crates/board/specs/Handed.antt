@@ -44,11 +44,11 @@ repairedBoard b =
 unfoldable pub lostCleared : ℕ → Board → Board
 lostCleared m b = cond (ltb m 6) (withChannels (set (b .channels) m (withLost 0 (channelIn (b .channels) m))) b) b
 
--- what stays of the board b handed in, by the reply of the repaired one
-unfoldable pub kept : Board → Event → Reply Board → Reply Board
-kept b e r =
-    cond (eqb (r .answer .result) 0) r
-    (cond (eqb (r .answer .result) 6) (reply (lostCleared (e .member) b) (r .answer)) (reply b (r .answer)))
+-- what stays of the board b handed in, where the repaired one answers with this result and leaves that board
+unfoldable pub kept : Board → ℕ → ℕ → Board → Board
+kept b member result next = cond (eqb result 0) next (cond (eqb result 6) (lostCleared member b) b)
 
 unfoldable pub applied : Board → Event → Reply Board
-applied b e = kept b e (respond (repairedBoard b) e)
+applied b e =
+    let r : Reply Board = respond (repairedBoard b) e in
+    reply (kept b (e .member) (r .answer .result) (r .state)) (r .answer)

@@ -102,12 +102,12 @@ called b e = calledBy (classOf (e .kind)) b e
 
 -- ---- every event
 
--- with a step that `stepOf` makes of V and W
-unfoldable pub respondWith : (ℕ → ℕ → Board → Board) → Board → Event → Reply Board
-respondWith stepOf b e = cond (isStep e) (accept (stepOf (e .v) (e .w) b)) (called b e)
+-- with a step that `stepOf` makes of V and W, and calls that `callOf` answers
+unfoldable pub respondWith : (ℕ → ℕ → Board → Board) → (Board → Event → Reply Board) → Board → Event → Reply Board
+respondWith stepOf callOf b e = cond (isStep e) (accept (stepOf (e .v) (e .w) b)) (callOf b e)
 
 unfoldable pub respond : Board → Event → Reply Board
-respond b e = respondWith stepped b e
+respond b e = respondWith stepped called b e
 
 -- the same, as the code's struct has it
 abbrev pub outcome : Reply Board → Outcome

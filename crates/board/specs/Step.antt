@@ -9,7 +9,7 @@ use Rattle.ports.specs.Pins.{sensed, driven}
 use Rattle.ports.specs.Virtuals.{virtualLevels}
 use Rattle.ports.specs.declared.Pins.{Pins}
 use Rattle.control.specs.Clock.{advanced, risesAt, ticks}
-use Rattle.control.specs.Watchdog.{watched}
+use Rattle.control.specs.Watchdog.{hasExpired, watched}
 use Rattle.control.specs.Safety.{guarded}
 use Rattle.control.specs.declared.Clock.{Clock}
 use Rattle.control.specs.declared.Watchdog.{Watchdog}
@@ -38,19 +38,19 @@ abbrev pub sceneIn : ℕ → Pins → Core → Board → Scene
 sceneIn v pins core b =
     sceneOf v (extouts (b .channels)) (core .clock) (pins .level) (virtualLevels (core .safety .safemode) (b .virtuals))
 
--- parts 1, 3 and 4: the clock, the watchdog, then safemode
-unfoldable pub coreNext : Bool → Core → Core
-coreNext pin47 k =
-    let dog : Watchdog = watched (k .watchdog) in
-    record { clock = advanced (k .clock); watchdog = dog; safety = guarded (dog .expired) pin47 (k .safety) }
+-- parts 1, 3 and 4: the clock, the watchdog, of which `watch` makes the next, then safemode, which goes by stage 0
+unfoldable pub coreNext : (Watchdog → Watchdog) → Bool → Core → Core
+coreNext watch pin47 k =
+    let dog : Watchdog = watch (k .watchdog) in
+    record { clock = advanced (k .clock); watchdog = dog; safety = guarded (hasExpired dog 0) pin47 (k .safety) }
 
--- with what `sense` makes of W and the pins for their levels
-unfoldable pub stepWith : (ℕ → Pins → Pins) → ℕ → ℕ → Board → Board
-stepWith sense v w b =
+-- with what `sense` makes of W and the pins for their levels, and `watch` of the watchdog
+unfoldable pub stepWith : (ℕ → Pins → Pins) → (Watchdog → Watchdog) → ℕ → ℕ → Board → Board
+stepWith sense watch v w b =
     -- part 2
     let pins : Pins = sense w (b .pins) in
     -- parts 1, 3 and 4
-    let core : Core = coreNext (bit (pins .level) 47) (b .core) in
+    let core : Core = coreNext watch (bit (pins .level) 47) (b .core) in
     -- part 5
     let channels : List Channel = allNext (sceneIn v pins core b) (b .channels) in
     -- part 6
@@ -62,4 +62,4 @@ stepWith sense v w b =
     }
 
 unfoldable pub stepped : ℕ → ℕ → Board → Board
-stepped v w b = stepWith sensed v w b
+stepped v w b = stepWith sensed watched v w b

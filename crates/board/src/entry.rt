@@ -1,7 +1,7 @@
 // The entry point: any board, any event.
 ghost use mathlib.Core.Path.{_≡_};
 ghost use Rattle.board.specs.Respond.{outcome};
-ghost use Rattle.board.specs.Handed.{resetBoard, inRange, repairedBoard, lostCleared, applied};
+ghost use Rattle.board.specs.Handed.{resetBoard, inRange, repairedBoard, lostCleared, kept, applied};
 ghost use Rattle.counter.specs.Repair.{repaired};
 use crate::Board;
 use crate::CHANNELS;
@@ -90,6 +90,20 @@ fn mended(board: Board) -> Board
     board.repair()
 }
 
+// What stays of the board handed in, where the repaired one answers with this result and leaves
+// that board.
+fn kept(board: Board, member: u8, result: u32, next: Board) -> Board
+    ensures { λ r. ⌜ r ≡ kept board member result next ⌝ }
+{
+    if result == 0 {
+        return next;
+    }
+    if result == 6 {
+        return board.clear_lost(member);
+    }
+    board
+}
+
 // The answer of any event on any board, and the next board.
 pub fn apply(board: Board, event: Event) -> Outcome
     ensures { λ r. ⌜ r ≡ outcome (applied board event) ⌝ }
@@ -103,17 +117,9 @@ pub fn apply(board: Board, event: Event) -> Outcome
     }
     let r = sound.call(event);
     let answer = r.answer;
-    if answer.result == 0 {
-        return r;
-    }
-    if answer.result == 6 {
-        return Outcome {
-            board: board.clear_lost(event.member),
-            answer: answer,
-        };
-    }
+    let next = r.board;
     Outcome {
-        board: board,
+        board: kept(board, event.member, answer.result, next),
         answer: answer,
     }
 }

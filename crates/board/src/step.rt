@@ -1,6 +1,7 @@
 // A step, in the six parts of document 01.
 ghost use mathlib.Core.Path.{_≡_};
 ghost use Prim.Native.Nat.{_<_};
+ghost use Rattle.control.specs.Watchdog.{watched};
 ghost use Rattle.board.specs.Inputs.{extouts, indexOf, carriedBy, samplesOf, allNext};
 ghost use Rattle.board.specs.Step.{sceneOf, coreNext, stepped};
 use crate::Board;
@@ -112,7 +113,7 @@ fn scene(v: u32, outs: u64, clock: Clock, levels: u64, virtuals: u64) -> Scene
 
 // Parts 1, 3 and 4: the clock, the watchdog, then safemode.
 fn advance_core(k: Core, pin47: bool) -> Core
-    ensures { λ r. ⌜ r ≡ coreNext pin47 k ⌝ }
+    ensures { λ r. ⌜ r ≡ coreNext watched pin47 k ⌝ }
 {
     let clock = k.clock;
     let watchdog = k.watchdog;
@@ -121,7 +122,7 @@ fn advance_core(k: Core, pin47: bool) -> Core
     Core {
         clock: clock.advance(),
         watchdog: dog,
-        safety: safety.guard(dog.expired, pin47),
+        safety: safety.guard(dog.has_expired(0), pin47),
     }
 }
 

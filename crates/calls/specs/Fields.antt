@@ -39,12 +39,16 @@ limits =
 unfoldable pub limit : ℕ → ℕ
 limit k = getD limits k 0
 
--- every field is as the call wants it: the spare and W 0; the selector 0, or 0 or 1 with calls 2 and 3; V below its limit, a good mode word
--- with call 1, not 0 with call 25
+-- the selector is below this: a preload or compare register of calls 2 and 3, a stage of call 25
+unfoldable pub selectors : ℕ → ℕ
+selectors k = cond (eqb k 2 || eqb k 3) 2 (cond (eqb k 25) 3 1)
+
+-- every field is as the call wants it: the spare and W 0; the selector and V below their limits; V a good mode word with call 1, not 0 with
+-- call 25
 unfoldable pub fits : Event → Bool
 fits e =
     eqb (e .spare) 0
-    && ltb (e .selector) (cond (eqb (e .kind) 2 || eqb (e .kind) 3) 2 1)
+    && ltb (e .selector) (selectors (e .kind))
     && eqb (e .w) 0
     && ltb (e .v) (limit (e .kind))
     && (not (eqb (e .kind) 1) || goodMode (e .v))

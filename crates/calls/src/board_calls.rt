@@ -84,15 +84,14 @@ fn safemode_clear(k: Core) -> CoreReply
 }
 
 // Call 25.
-fn interval_write(k: Core, v: u32) -> CoreReply
-    ensures { λ r. ⌜ r ≡ coreReply (intervalWrite v k) ⌝ }
+fn interval_write(k: Core, stage: u8, v: u32) -> CoreReply
+    ensures { λ r. ⌜ r ≡ coreReply (intervalWrite stage v k) ⌝ }
 {
-    let mut d = k.watchdog;
+    let d = k.watchdog;
     if d.enabled {
         return refuse(k, 7);
     }
-    d.interval = v;
-    with_watchdog(k, d)
+    with_watchdog(k, d.set_interval(stage, v))
 }
 
 // Call 26.
@@ -122,13 +121,15 @@ fn timestamp_read(k: Core) -> CoreReply
 fn status(k: Core) -> CoreReply
     ensures { λ r. ⌜ r ≡ coreReply (boardStatus k) ⌝ }
 {
-    let bits = words::flags(
+    let d = k.watchdog;
+    let low = words::flags(
         k.safety.safemode,
-        k.watchdog.expired,
+        d.has_expired(0),
         k.safety.writes,
-        k.watchdog.enabled,
+        d.enabled,
     );
-    tell(k, bits)
+    let high = words::flags(d.has_expired(1), d.has_expired(2), false, false);
+    tell(k, low + 16 * high)
 }
 
 // The call of an event on the board's own part.
@@ -140,7 +141,7 @@ pub fn board_call(e: Event, k: Core) -> CoreReply
         22 => control_write(k, e.v),
         23 => swe_write(k, e.v == 1),
         24 => safemode_clear(k),
-        25 => interval_write(k, e.v),
+        25 => interval_write(k, e.selector, e.v),
         26 => enable_write(k, e.v == 1),
         27 => watchdog_kick(k),
         28 => timestamp_read(k),

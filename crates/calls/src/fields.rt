@@ -1,7 +1,6 @@
 // Result 3: the field checks of a step and of each call.
 ghost use mathlib.Core.Path.{_≡_};
-ghost use mathlib.Core.Bool.{cond};
-ghost use Rattle.calls.specs.Fields.{stepFits, isStep, limit, fits};
+ghost use Rattle.calls.specs.Fields.{stepFits, isStep, limit, selectors, fits};
 use crate::Event;
 
 // The kinds, 0 to 29.
@@ -55,22 +54,27 @@ fn limit(kind: u8) -> u64
     if kind < KINDS { LIMITS[at] } else { 0 }
 }
 
-// `x` where `b`, else `y`.
-fn pick(b: bool, x: u64, y: u64) -> u64
-    ensures { λ r. ⌜ r ≡ cond b x y ⌝ }
+// The selector is below this, kind by kind.
+fn selectors(kind: u8) -> u8
+    ensures { λ r. ⌜ r ≡ selectors kind ⌝ }
 {
-    if b { x } else { y }
+    match kind {
+        2 => 2,
+        3 => 2,
+        25 => control::STAGES as u8,
+        _ => 1,
+    }
 }
 
 // Every field of a call is as its kind wants it.
 pub fn fits(e: Event) -> bool
     ensures { λ r. ⌜ r ≡ fits e ⌝ }
 {
-    let selectors = pick((e.kind == 2) | (e.kind == 3), 2, 1);
+    let chosen = selectors(e.kind);
     let most = limit(e.kind);
     let good = counter::mode::is_good(e.v);
     (e.spare == 0)
-        & ((e.selector as u64) < selectors)
+        & (e.selector < chosen)
         & (e.w == 0)
         & ((e.v as u64) < most)
         & (!(e.kind == 1) | good)

@@ -7,7 +7,7 @@ use Rattle.words.specs.Bits.{bitAt}
 use Rattle.words.specs.Range.{orReset}
 use Rattle.control.specs.declared.Safety.{Safety}
 
--- control bits: 0 pin 47 triggers, 1 its active level, 2 the watchdog triggers
+-- control bits: 0 pin 47 triggers, 1 its active level, 2 stage 0 of the watchdog triggers
 abbrev pub pinTriggers : ℕ → Bool
 pinTriggers c = eqb (c % 2) 1
 
@@ -26,7 +26,7 @@ withWrites t s = record { control = s .control; writes = t; safemode = s .safemo
 abbrev pub withSafemode : Bool → Safety → Safety
 withSafemode t s = record { control = s .control; writes = s .writes; safemode = t }
 
--- safemode is set by an expired watchdog or by pin 47's level, where control says so; it stays
+-- safemode is set by an expired stage 0 of the watchdog or by pin 47's level, where control says so; it stays
 unfoldable pub guarded : Bool → Bool → Safety → Safety
 guarded expired pin47 s =
     withSafemode

@@ -2,7 +2,7 @@
 -- Assumes nothing.
 use mathlib.Core.Bool.{Bool, _&&_}
 use Rattle.control.specs.Clock.{resetClock, isPrescaler, repairedClock}
-use Rattle.control.specs.Watchdog.{resetWatchdog, isInterval, repairedWatchdog}
+use Rattle.control.specs.Watchdog.{resetWatchdog, watchdogInRange, repairedWatchdog}
 use Rattle.control.specs.Safety.{resetSafety, isControl, repairedSafety}
 use Rattle.control.specs.declared.Watchdog.{Watchdog}
 use Rattle.control.specs.declared.Safety.{Safety}
@@ -16,13 +16,13 @@ withSafety s k = record { clock = k .clock; watchdog = k .watchdog; safety = s }
 
 -- every field is in its range
 unfoldable pub coreInRange : Core → Bool
-coreInRange k = isPrescaler (k .clock .prescaler) && isInterval (k .watchdog .interval) && isControl (k .safety .control)
+coreInRange k = isPrescaler (k .clock .prescaler) && watchdogInRange (k .watchdog) && isControl (k .safety .control)
 
 -- the part handed in
 unfoldable pub repairedCore : Core → Core
 repairedCore k =
     record { clock = repairedClock (k .clock); watchdog = repairedWatchdog (k .watchdog); safety = repairedSafety (k .safety) }
 
--- at reset all is 0, but the interval 50,000,000
+-- at reset all is 0, but the intervals 50,000,000
 unfoldable pub resetCore : Core
 resetCore = record { clock = resetClock; watchdog = resetWatchdog; safety = resetSafety }

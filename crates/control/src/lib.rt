@@ -1,7 +1,9 @@
 // The board's own part: the clock with its ticks, the watchdog, and safemode with what sets it.
 ghost use mathlib.Core.Path.{_≡_};
+ghost use Prim.Native.Nat.{_-_};
 ghost use Rattle.control.specs.Clock.{prescalerNext, risesAt, advanced, ticks, repairedClock};
-ghost use Rattle.control.specs.Watchdog.{watched, kicked, switched, repairedWatchdog};
+ghost use Rattle.words.specs.Range.{orReset};
+ghost use Rattle.control.specs.Watchdog.{hasExpired, restsAfter, expiredAfter, watched, kicked, switched, withInterval, resetInterval, isInterval, watchdogInRange, repairedWatchdog};
 ghost use Rattle.control.specs.Safety.{pinTriggers, activeLevel, watchdogTriggers, guarded, repairedSafety};
 ghost use Rattle.control.specs.Whole.{coreInRange, repairedCore, resetCore};
 
@@ -11,8 +13,13 @@ const PRESCALE: u32 = 500_000_000;
 // The steps of a microsecond: the timestamp rises.
 const MICROSECOND: u32 = 50;
 
-// The watchdog's interval at reset.
+// The stages of the watchdog, and the interval of each at reset.
+pub const STAGES: usize = 3;
+
 const INTERVAL: u32 = 50_000_000;
+
+// How many of them have expired is below this.
+const EXPIRED: u32 = STAGES as u32 + 1;
 
 // Control words are below this, 3 bits.
 pub const CONTROLS: u32 = 8;
@@ -23,12 +30,14 @@ pub struct Clock {
     pub timestamp: u32,
 }
 
+// Each stage has its interval and its rest. `expired` is how many stages have expired: the first so
+// many, since a stage runs only when the one before it has expired.
 #[repr(C)]
 pub struct Watchdog {
-    pub interval: u32,
-    pub rest: u32,
+    pub intervals: [u32; STAGES],
+    pub rests: [u32; STAGES],
+    pub expired: u32,
     pub enabled: bool,
-    pub expired: bool,
 }
 
 // `writes` is SWE: safe writes are allowed.
@@ -109,26 +118,73 @@ pub fn ticks(p: u32) -> u64
     (slow + 16 * fast) as u64
 }
 
+// A rest above 0 is lowered by 1.
+fn lowered(rest: u32) -> u32
+    ensures { λ r. ⌜ r ≡ rest - 1 ⌝ }
+{
+    if 0 < rest { rest - 1 } else { 0 }
+}
+
+// The rests after a step: a stage runs where it is the first or the one before it has expired.
+fn rests_after(expired: u32, rests: [u32; STAGES]) -> [u32; STAGES]
+    ensures { λ r. ⌜ r ≡ restsAfter 3 expired rests ⌝ }
+{
+    let first = lowered(rests[0]);
+    match expired {
+        0 => [first, rests[1], rests[2]],
+        1 => [first, lowered(rests[1]), rests[2]],
+        _ => [first, lowered(rests[1]), lowered(rests[2])],
+    }
+}
+
+// How many stages have expired after a step: one more where the first that has not reaches 0.
+fn expired_after(expired: u32, rests: [u32; STAGES]) -> u32
+    ensures { λ r. ⌜ r ≡ expiredAfter 3 expired rests ⌝ }
+{
+    match expired {
+        0 => if rests[0] == 1 { 1 } else { 0 },
+        1 => if rests[1] == 1 { 2 } else { 1 },
+        2 => if rests[2] == 1 { 3 } else { 2 },
+        _ => expired,
+    }
+}
+
+// An interval handed in.
+fn sound_interval(n: u32) -> u32
+    ensures { λ r. ⌜ r ≡ orReset isInterval resetInterval n ⌝ }
+{
+    if 0 < n { n } else { INTERVAL }
+}
+
 impl Watchdog {
-    // Part 3 of a step.
+    // Stage `stage` has expired.
+    pub fn has_expired(self, stage: u32) -> bool
+        ensures { λ r. ⌜ r ≡ hasExpired self stage ⌝ }
+    {
+        stage < self.expired
+    }
+
+    // Part 3 of a step: what has expired is read before it.
     pub fn watch(mut self) -> Watchdog
         ensures { λ r. ⌜ r ≡ watched self ⌝ }
     {
         if self.enabled {
-            if 0 < self.rest {
-                self.expired = self.expired | (self.rest == 1);
-                self.rest = self.rest - 1;
-            }
+            let before = self.expired;
+            let rests = self.rests;
+            self.expired = expired_after(before, rests);
+            let lower = rests_after(before, rests);
+            self.rests = lower;
         }
         self
     }
 
-    // The rest to the interval, and expiry ended.
+    // The rests to the intervals, and all expiry ended.
     pub fn kick(mut self) -> Watchdog
         ensures { λ r. ⌜ r ≡ kicked self ⌝ }
     {
-        self.rest = self.interval;
-        self.expired = false;
+        let full = self.intervals;
+        self.rests = full;
+        self.expired = 0;
         self
     }
 
@@ -147,13 +203,36 @@ impl Watchdog {
         self
     }
 
+    // The interval of a stage at n.
+    pub fn set_interval(mut self, stage: u8, n: u32) -> Watchdog
+        ensures { λ r. ⌜ r ≡ withInterval stage n self ⌝ }
+    {
+        let at = stage as usize;
+        if at < STAGES {
+            self.intervals[at] = n;
+        }
+        self
+    }
+
+    // Every field is in its range.
+    fn is_sound(self) -> bool
+        ensures { λ r. ⌜ r ≡ watchdogInRange self ⌝ }
+    {
+        let i = self.intervals;
+        (0 < i[0]) & (0 < i[1]) & (0 < i[2]) & (self.expired < EXPIRED)
+    }
+
     // A watchdog handed in.
     pub fn repair(mut self) -> Watchdog
         ensures { λ r. ⌜ r ≡ repairedWatchdog self ⌝ }
     {
-        if self.interval == 0 {
-            self.interval = INTERVAL;
-        }
+        let i = self.intervals;
+        self.intervals = [
+            sound_interval(i[0]),
+            sound_interval(i[1]),
+            sound_interval(i[2]),
+        ];
+        self.expired = words::below(EXPIRED, 0, self.expired);
         self
     }
 }
@@ -172,7 +251,7 @@ fn active_level(c: u32) -> bool
     (c >> 1) % 2 == 1
 }
 
-// Control bit 2: an expired watchdog triggers safemode.
+// Control bit 2: an expired stage 0 of the watchdog triggers safemode.
 fn watchdog_triggers(c: u32) -> bool
     ensures { λ r. ⌜ r ≡ watchdogTriggers c ⌝ }
 {
@@ -211,7 +290,7 @@ impl Core {
         let clock = self.clock;
         let watchdog = self.watchdog;
         let safety = self.safety;
-        (clock.prescaler < PRESCALE) & (0 < watchdog.interval) & (safety.control < CONTROLS)
+        (clock.prescaler < PRESCALE) & watchdog.is_sound() & (safety.control < CONTROLS)
     }
 
     // The board's own part handed in.
@@ -239,10 +318,10 @@ pub fn reset() -> Core
             timestamp: 0,
         },
         watchdog: Watchdog {
-            interval: INTERVAL,
-            rest: 0,
+            intervals: [INTERVAL; STAGES],
+            rests: [0; STAGES],
+            expired: 0,
             enabled: false,
-            expired: false,
         },
         safety: Safety {
             control: 0,

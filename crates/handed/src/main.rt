@@ -1,7 +1,7 @@
 // Boards handed in. First with every field outside its range: the answer, and what is stored of the
 // board, by events that are accepted, refused, and answered 6, and by lists of these. Then each
-// field that has a range by itself. Then four boards that no script reaches in a test's time, or
-// whose record tells more than a call does.
+// field that has a range by itself. Then boards that no script reaches in a test's time, or whose
+// record tells more than a call does.
 mod lists;
 mod ranges;
 mod show;
@@ -52,10 +52,10 @@ fn broken_core() -> Core {
             timestamp: ALL,
         },
         watchdog: Watchdog {
-            interval: 0,
-            rest: ALL,
+            intervals: [0; control::STAGES],
+            rests: [ALL; control::STAGES],
+            expired: ALL,
             enabled: false,
-            expired: true,
         },
         safety: Safety {
             control: ALL,
@@ -121,15 +121,15 @@ fn second_without_bp() -> Board {
     board_with(c, control::reset())
 }
 
-// The watchdog is enabled with a rest of 0 and no mark.
-fn rest_without_mark() -> Board {
+// The watchdog is enabled, with these rests and so many stages expired; its intervals are 5, 6 and 7.
+fn watched(rests: [u32; control::STAGES], expired: u32) -> Board {
     let c = counter::reset();
     let mut k = control::reset();
     let watchdog = Watchdog {
-        interval: 5,
-        rest: 0,
+        intervals: [5, 6, 7],
+        rests: rests,
+        expired: expired,
         enabled: true,
-        expired: false,
     };
     k.watchdog = watchdog;
     board_with(c, k)
@@ -194,11 +194,32 @@ fn show_points() {
         b"W7, interval",
         board::apply(board::reset(), event(25, 0, 7)),
     );
-    let stepped = board::apply(rest_without_mark(), event(0, 0, 0));
-    let still = stepped.board;
+}
+
+// The status after a step, and what the step made of the watchdog.
+fn show_step(name: &[u8], b: Board) {
+    let stepped = board::apply(b, event(0, 0, 0));
+    let after = stepped.board;
+    show(name, board::apply(after, event(29, 0, 0)));
+}
+
+// A stage with a rest of 0 that has not expired, the first one and one behind it; rests of stages
+// that have expired.
+fn show_stages() {
+    show_step(b"W9, status after a step", watched([0, 6, 7], 0));
+    show_step(b"W9, behind an expired stage", watched([4, 0, 7], 1));
+    show_step(b"all stages expired", watched([2, 3, 4], 3));
+    let third = Event {
+        kind: 25,
+        member: 0,
+        selector: 2,
+        spare: 0,
+        v: 9,
+        w: 0,
+    };
     show(
-        b"W9, status after a step",
-        board::apply(still, event(29, 0, 0)),
+        b"R4, interval of stage 2",
+        board::apply(board::reset(), third),
     );
 }
 
@@ -208,4 +229,5 @@ fn main() {
     lists::show_lists(broken());
     ranges::show_ranges();
     show_points();
+    show_stages();
 }

@@ -9,6 +9,7 @@ use crate::show::show_virtuals;
 use board::Board;
 use board::Outcome;
 use control::Core;
+use control::Watchdog;
 use counter::Channel;
 use ports::Pins;
 use ports::Virtuals;
@@ -213,11 +214,21 @@ fn show_outputs() {
     of_virtuals(b"safe enables 65", x);
 }
 
+// A disabled watchdog with these intervals, of which so many stages have expired.
+fn watchdog(intervals: [u32; control::STAGES], expired: u32) -> Watchdog {
+    Watchdog {
+        intervals: intervals,
+        rests: [0; control::STAGES],
+        expired: expired,
+        enabled: false,
+    }
+}
+
 // The board's own part at the ends of its ranges.
 fn greatest_core() -> Core {
     let mut k = control::reset();
     k.clock.prescaler = 499_999_999;
-    k.watchdog.interval = 1;
+    k.watchdog = watchdog([1, 1, 1], 3);
     k.safety.control = 7;
     k
 }
@@ -228,8 +239,17 @@ fn show_cores() {
     k.clock.prescaler = 500_000_000;
     of_core(b"prescaler 500,000,000", k);
     let mut k = greatest_core();
-    k.watchdog.interval = 0;
-    of_core(b"interval 0", k);
+    k.watchdog = watchdog([0, 1, 1], 3);
+    of_core(b"interval 0 of stage 0", k);
+    let mut k = greatest_core();
+    k.watchdog = watchdog([1, 0, 1], 3);
+    of_core(b"interval 0 of stage 1", k);
+    let mut k = greatest_core();
+    k.watchdog = watchdog([1, 1, 0], 3);
+    of_core(b"interval 0 of stage 2", k);
+    let mut k = greatest_core();
+    k.watchdog = watchdog([1, 1, 1], 4);
+    of_core(b"4 stages expired", k);
     let mut k = greatest_core();
     k.safety.control = 8;
     of_core(b"control 8", k);

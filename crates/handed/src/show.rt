@@ -70,13 +70,24 @@ pub fn show_virtuals(x: Virtuals) {
     text(b"\n");
 }
 
+// A name and the numbers of the three stages.
+fn stages(name: &[u8], a: [u32; control::STAGES]) {
+    small(name, a[0]);
+    small(b" ", a[1]);
+    small(b" ", a[2]);
+}
+
 // The board's own part.
 pub fn show_core(k: Core) {
     small(b"  prescaler ", k.clock.prescaler);
     small(b" timestamp ", k.clock.timestamp);
-    small(b" interval ", k.watchdog.interval);
-    small(b" rest ", k.watchdog.rest);
     small(b" control ", k.safety.control);
+    let d = k.watchdog;
+    let intervals = d.intervals;
+    let rests = d.rests;
+    stages(b" intervals ", intervals);
+    stages(b" rests ", rests);
+    small(b" expired ", d.expired);
     text(b"\n");
 }
 

@@ -6,6 +6,7 @@ use mathlib.Core.Bool.{Bool, true, false, _&&_, _||_, and-eq-true-iff, true≢fa
 use Prim.Native.Nat.{ℕ, _<_, _/_, _^_}
 use lib.Dec.{eqb, ltb}
 use borrow.Author.Tests.{lt-ltb, eqb-true, not-true, not-false}
+use Rattle.words.proofs.Cases.{paired, neither}
 use Rattle.words.proofs.BitLaws.{word-lt}
 use Rattle.counter.specs.declared.Channel.{Channel}
 use Rattle.ports.specs.Pins.{pinAt}
@@ -34,7 +35,6 @@ use Rattle.isolation.specs.Members.{Members}
 use Rattle.isolation.specs.Settings.{Settings, told}
 use Rattle.isolation.specs.Closed.{Closed}
 use Rattle.isolation.specs.Remainder.{onOutsider, isMisaddressed, isRefusedStep, struck, cleared, shown}
-use Rattle.isolation.proofs.Cases.{paired, neither}
 use Rattle.isolation.proofs.TwoRuns.{Follows}
 use Rattle.isolation.proofs.Stores.{put-both, put-outside}
 use Rattle.isolation.proofs.Placed.{channels-placed, pins-placed, virtuals-placed}

@@ -19,11 +19,11 @@ use Rattle.ports.specs.Pins.{pinAt, putPin, pinLevel, sensed, driven, resetPins
 use Rattle.ports.specs.Virtuals.{virtualAt, putVirtual, virtualLevels, resetVirtuals, routed, repairedVirtuals}
 use Rattle.control.specs.Clock.{advanced, ticks, repairedClock}
 use Rattle.control.specs.Safety.{guarded, repairedSafety}
-use Rattle.control.specs.Watchdog.{watched, kicked, switched, repairedWatchdog}
+use Rattle.control.specs.Watchdog.{restsAfter, expiredAfter, watchedIn, watched, kicked, withInterval, switched, repairedWatchdog}
 use Rattle.control.specs.Whole.{resetCore, repairedCore}
 use Rattle.calls.specs.BoardCalls.{intervalWrite, boardCall}
 use Rattle.calls.specs.ChannelCalls.{modeWrite, registerWrite, routeWrite, snapshotRead, channelCall}
-use Rattle.calls.specs.Fields.{stepFits, limits, limit, fits}
+use Rattle.calls.specs.Fields.{stepFits, limits, limit, selectors, fits}
 use Rattle.calls.specs.PinCalls.{pinCall}
 use Rattle.calls.specs.VirtualCalls.{virtualCall}
 use Rattle.board.specs.Handed.{resetBoard, repairedBoard, lostCleared, kept, applied}
@@ -43,7 +43,7 @@ use Rattle.isolation.specs.Apart.{Computed, ending, Refuting, quorum, sp
 use Rattle.isolation.proofs.Tests.{decided}
 
 pub computed : Computed
-unfolding bit word some tab edgeReasons look countedOn masked asked loaded nextOf settled step advance clocked errs preloaded started captured popped resetChannel pinAt putPin pinLevel sensed driven resetPins virtualAt putVirtual virtualLevels resetVirtuals routed advanced ticks guarded watched kicked switched resetCore intervalWrite boardCall modeWrite registerWrite routeWrite snapshotRead channelCall stepFits limits limit fits pinCall virtualCall resetBoard extouts indexOf samplesOf inputsOf channelNext allNext refusalIn refusalBy passedBy calledBy respondWith respond finish sceneOf coreNext stepWith stepped inReasons repaired repairedWords repairedSources repairedPins repairedVirtuals repairedClock repairedSafety repairedWatchdog repairedCore repairedBoard lostCleared kept applied remainder keptAnswers untold latest told onOutsider struck cleared shown clauses all without afterEach among group setup neighbours trial shared sole given quorum spilling
+unfolding bit word some tab edgeReasons look countedOn masked asked loaded nextOf settled step advance clocked errs preloaded started captured popped resetChannel pinAt putPin pinLevel sensed driven resetPins virtualAt putVirtual virtualLevels resetVirtuals routed advanced ticks guarded restsAfter expiredAfter watchedIn watched kicked withInterval switched resetCore intervalWrite boardCall modeWrite registerWrite routeWrite snapshotRead channelCall stepFits limits limit selectors fits pinCall virtualCall resetBoard extouts indexOf samplesOf inputsOf channelNext allNext refusalIn refusalBy passedBy calledBy respondWith respond finish sceneOf coreNext stepWith stepped inReasons repaired repairedWords repairedSources repairedPins repairedVirtuals repairedClock repairedSafety repairedWatchdog repairedCore repairedBoard lostCleared kept applied remainder keptAnswers untold latest told onOutsider struck cleared shown clauses all without afterEach among group setup neighbours trial shared sole given quorum spilling
 computed = record {
   alike = record {
     longer = refl;

@@ -21,7 +21,7 @@ use Rattle.ports.specs.Virtuals.{virtualLevel, virtualLevels, routed}
 use Rattle.ports.specs.declared.Pin.{Pin}
 use Rattle.control.specs.Safety.{pinTriggers, activeLevel, watchdogTriggers, guarded}
 use Rattle.control.specs.Clock.{advanced, risesAt, ticks}
-use Rattle.control.specs.Watchdog.{watched}
+use Rattle.control.specs.Watchdog.{hasExpired, watched}
 use Rattle.control.specs.declared.Safety.{Safety}
 use Rattle.control.specs.declared.Core.{Core}
 use Rattle.board.specs.Inputs.{channelIn, neighbour, extouts, indexOf, carriedBy, samplesOf, inputsOf, channelNext, allNext}
@@ -138,15 +138,15 @@ module _ (M : Members) where
 
     -- the board's own part as the step leaves it
     abbrev found : ℕ → Board → Core
-    found u z = coreNext (bit (level u z) 47) (z .core)
+    found u z = coreNext watched (bit (level u z) 47) (z .core)
 
     core-same : found w b ≡ found x h
     unfolding coreNext
     core-same =
         ap (λ s. record { clock = advanced (b .core .clock); watchdog = watched (b .core .watchdog); safety = s })
-        (trigger-same (watched (b .core .watchdog) .expired) _ _ (b .core .safety)
+        (trigger-same (hasExpired (watched (b .core .watchdog)) 0) _ _ (b .core .safety)
         (λ e. levels-same 47 (omega arith) (closed .triggering (let f : pinTriggers (t .control) ≡ true = rw (sym (told .control)) e in f))))
-        ∙ ap (coreNext (bit (level x h) 47)) (seen .core)
+        ∙ ap (coreNext watched (bit (level x h) 47)) (seen .core)
 
     virtuals-same : Agree 6 bit (M .isVirtual) (virtualLevels (found w b .safety .safemode) (b .virtuals)) (virtualLevels (found x h .safety .safemode) (h .virtuals))
     unfolding virtualLevels

@@ -6,7 +6,7 @@ use Prim.Native.Nat.{ℕ, _<_}
 use native.Mathlib.Omega.{arith}
 use lib.Dec.{eqb}
 use lib.ListN.{getD-replicate}
-use borrow.Author.Tests.{ltb-true, eqb-true, eqb-false, eq-eqb, ne-eqb}
+use borrow.Author.Tests.{ltb-true, eqb-true, eq-eqb}
 use Rattle.words.proofs.BitLaws.{bit-none}
 use Rattle.counter.specs.Repair.{noChannel, resetChannel}
 use Rattle.counter.specs.declared.Channel.{Channel}
@@ -29,6 +29,7 @@ use Rattle.board.specs.declared.Class.{Class}
 use Rattle.board.specs.declared.Class.the-variants.{Step, OnChannel, OnPin, OnVirtual, OnBoard, Unknown}
 use Rattle.board.specs.Handed.{resetBoard}
 use Rattle.board.specs.declared.Board.{Board}
+use Rattle.board.proofs.Classes.{code, other-kind}
 use Rattle.board.proofs.Same.{InRange}
 use Rattle.words.proofs.Cases.{tested}
 use Rattle.words.proofs.Tables.{getD-tab}
@@ -66,18 +67,9 @@ quiet t b d e a m k k1 k4 k13 k22 = record {
   control = k .control ∙ m .control ∙ sym (k22 0 (t .control));
 }
 
--- the kinds of one class are no kinds of another
-abbrev code : Class → ℕ
-code Step = 0
-code OnChannel = 1
-code OnPin = 2
-code OnVirtual = 3
-code OnBoard = 4
-code Unknown = 5
-
 module _ (e : Event) (a : Answer) where
   of-class : (C : Class) → classOf (e .kind) ≡ C → (k : ℕ) → eqb (code C) (code (classOf k)) ≡ false → Silent e a k
-  of-class C p k d i old = of-another-kind k i e a old (ne-eqb (e .kind) k (λ h. eqb-false (code C) (code (classOf k)) d (ap code (sym p ∙ ap classOf h))))
+  of-class C p k d i old = of-another-kind k i e a old (other-kind (e .kind) k C p d)
 
   pub step-quiet : (t : Settings) (b d : Board) → classOf (e .kind) ≡ Step → Told t b → Told (settingsOf b) d → Told (told t e a) d
   step-quiet t b d p m k =

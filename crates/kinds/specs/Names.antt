@@ -41,7 +41,7 @@ kindOf w = cond (number w .good) (cond (ltb (number w .value) 30) (number w .val
 -- ---- fields
 
 -- the fields that follow a name, the first in the lowest octal digit: 1 kind, 2 member, 3 selector, 4 spare, 5 V, 6 W; of a step none, since
--- its inputs can be named
+-- its inputs can be named; a selector that comes last may be left out, and is then 0
 unfoldable pub fieldTable : List ℕ
 fieldTable =
     -- 0 to 5
@@ -53,7 +53,7 @@ fieldTable =
     -- 18 to 21
     ∷ 0o52 ∷ 0o52 ∷ 0o52 ∷ 0o2
     -- 22 to 29
-    ∷ 0o5 ∷ 0o5 ∷ 0 ∷ 0o5 ∷ 0o5 ∷ 0 ∷ 0 ∷ 0
+    ∷ 0o5 ∷ 0o5 ∷ 0 ∷ 0o35 ∷ 0o5 ∷ 0 ∷ 0 ∷ 0
     -- raw
     ∷ 0o654321
     ∷ []

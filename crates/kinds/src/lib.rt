@@ -64,6 +64,9 @@ const STARTS: [usize; 32] = [
     412,
 ];
 
+// What is left where a selector comes last. It may be left out, and is then 0.
+pub const SELECTOR_LAST: u32 = 0o3;
+
 // The fields that follow each name, the first in the lowest octal digit: 1 kind, 2 member,
 // 3 selector, 4 spare, 5 V, 6 W.
 const FIELDS: [u32; 31] = [
@@ -92,7 +95,7 @@ const FIELDS: [u32; 31] = [
     0o5, // 22 control_write
     0o5, // 23 swe_write
     0, // 24 safemode_clear
-    0o5, // 25 watchdog_interval_write
+    0o35, // 25 watchdog_interval_write
     0o5, // 26 watchdog_enable_write
     0, // 27 watchdog_kick
     0, // 28 timestamp_read

@@ -12,14 +12,14 @@ use Rattle.board.proofs.Same.{board-fields, board-same}
 use Rattle.words.proofs.Cases.{tested}
 use Rattle.reach.proofs.RangedBoard.{SoundEvent, respond-sound}
 
-kept-same : (b : Board) (e : Event) (r : Reply Board) → SoundEvent b e r → kept b e r ≡ r
+kept-same : (b : Board) (e : Event) (r : Reply Board) → SoundEvent b e r → kept b (e .member) (r .answer .result) (r .state) ≡ r .state
 unfolding kept
 kept-same b e r s =
-    tested (λ x. x ≡ r) (eqb (r .answer .result) 0) (λ h. refl) (λ h.
-    tested (λ x. x ≡ r) (eqb (r .answer .result) 6)
-    (λ k. λ i. reply (sym (s .lost k) i) (r .answer))
-    (λ k. λ i. reply (sym (s .refused h k) i) (r .answer)))
+    tested (λ x. x ≡ r .state) (eqb (r .answer .result) 0) (λ h. refl) (λ h.
+    tested (λ x. x ≡ r .state) (eqb (r .answer .result) 6) (λ k. sym (s .lost k)) (λ k. sym (s .refused h k)))
 
 pub entry-same : (b : Board) → inRange b ≡ true → (e : Event) → applied b e ≡ respond b e
 unfolding applied
-entry-same b r e = rw (board-same b r) (kept-same b e (respond b e) (respond-sound b (board-fields b r) e))
+entry-same b r e =
+    let x = respond b e in
+    rw (board-same b r) (λ i. reply (kept-same b e x (respond-sound b (board-fields b r) e) i) (x .answer))

@@ -7,6 +7,7 @@ use Rattle.words.specs.Bits.{bit, word, every}
 use Rattle.counter.specs.Repair.{resetChannel, areReasons, channelInRange}
 use Rattle.ports.specs.Pins.{pinAt, resetPins, pinsInRange}
 use Rattle.ports.specs.Virtuals.{resetVirtuals, virtualsInRange}
+use Rattle.control.specs.Watchdog.{watchdogInRange}
 use Rattle.control.specs.Whole.{coreInRange, resetCore}
 use Rattle.calls.specs.declared.Event.{Event}
 use Rattle.board.specs.Respond.{respond}
@@ -21,7 +22,7 @@ use Rattle.reach.proofs.Entry.{entry-same}
 -- ---- reset
 
 pub reset-ranged : inRange resetBoard ≡ true
-unfolding inRange channelInRange areReasons pinsInRange virtualsInRange coreInRange every word bit pinAt resetBoard resetChannel resetPins resetVirtuals resetCore
+unfolding inRange channelInRange areReasons pinsInRange virtualsInRange watchdogInRange coreInRange every word bit pinAt resetBoard resetChannel resetPins resetVirtuals resetCore
 reset-ranged = refl
 
 -- ---- lists of events

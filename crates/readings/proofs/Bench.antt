@@ -13,11 +13,11 @@ use Rattle.ports.specs.Pins.{pinAt, putPin, pinLevel, sensed, driven, resetPins
 use Rattle.ports.specs.Virtuals.{virtualAt, putVirtual, virtualLevels, resetVirtuals, routed}
 use Rattle.control.specs.Clock.{advanced, ticks}
 use Rattle.control.specs.Safety.{guarded}
-use Rattle.control.specs.Watchdog.{watched, kicked, switched}
+use Rattle.control.specs.Watchdog.{restsAfter, expiredAfter, watchedIn, watched, kicked, withInterval, switched}
 use Rattle.control.specs.Whole.{resetCore}
 use Rattle.calls.specs.BoardCalls.{intervalWrite, boardCall}
 use Rattle.calls.specs.ChannelCalls.{modeWrite, registerWrite, routeWrite, snapshotRead, channelCall}
-use Rattle.calls.specs.Fields.{stepFits, limits, limit, fits}
+use Rattle.calls.specs.Fields.{stepFits, limits, limit, selectors, fits}
 use Rattle.calls.specs.PinCalls.{pinCall}
 use Rattle.calls.specs.VirtualCalls.{virtualCall}
 use Rattle.board.specs.Handed.{resetBoard}
@@ -25,8 +25,8 @@ use Rattle.board.specs.Inputs.{extouts, indexOf, samplesOf, inputsOf, channelNe
 use Rattle.board.specs.Respond.{refusalIn, refusalBy, passedBy, calledBy, respondWith, respond}
 use Rattle.board.specs.Runs.{finish, replies}
 use Rattle.board.specs.Step.{sceneOf, coreNext, stepWith, stepped}
-use Rattle.readings.specs.Readings.{preload1, steps, traced, extoutsIn, answersIn, seen, read, delay, cascade, turn, error, seventeen, entries, pulses, heads, gate, table}
+use Rattle.readings.specs.Readings.{steps, traced, extoutsIn, answersIn, seen, read, delay, cascade, turn, error, seventeen, entries, pulses, heads, gate, staged, table}
 
 pub readings : map read table ≡ map (λ r. r .numbers) table
-unfolding bit word some tab edgeReasons look counted masked asked loaded nextOf settled step advance clocked errs preloaded started captured popped resetChannel pinAt putPin pinLevel sensed driven resetPins virtualAt putVirtual virtualLevels resetVirtuals routed advanced ticks guarded watched kicked switched resetCore intervalWrite boardCall modeWrite registerWrite routeWrite snapshotRead channelCall stepFits limits limit fits pinCall virtualCall resetBoard extouts indexOf samplesOf inputsOf channelNext allNext refusalIn refusalBy passedBy calledBy respondWith respond finish replies sceneOf coreNext stepWith stepped preload1 steps traced extoutsIn answersIn seen read delay cascade turn error seventeen entries pulses heads gate table
+unfolding bit word some tab edgeReasons look counted masked asked loaded nextOf settled step advance clocked errs preloaded started captured popped resetChannel pinAt putPin pinLevel sensed driven resetPins virtualAt putVirtual virtualLevels resetVirtuals routed advanced ticks guarded restsAfter expiredAfter watchedIn watched kicked withInterval switched resetCore intervalWrite boardCall modeWrite registerWrite routeWrite snapshotRead channelCall stepFits limits limit selectors fits pinCall virtualCall resetBoard extouts indexOf samplesOf inputsOf channelNext allNext refusalIn refusalBy passedBy calledBy respondWith respond finish replies sceneOf coreNext stepWith stepped steps traced extoutsIn answersIn seen read delay cascade turn error seventeen entries pulses heads gate staged table
 readings = refl

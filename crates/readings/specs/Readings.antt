@@ -1,11 +1,11 @@
--- Document 01, "Bench readings", a to j, and what requests 1 and 2 changed: lists of events from reset, what is then looked at, and the numbers that
+-- Document 01, "Bench readings", a to j, and what requests 1 to 3 changed: lists of events from reset, what is then looked at, and the numbers that
 -- are read.
 -- Assumes nothing.
 use mathlib.Core.List.{List, [], _∷_, _++_, map}
 use Prim.Native.Nat.{ℕ, zero, suc, _^_}
 use lib.ListN.{replicate}
 use Rattle.words.specs.Bits.{flag}
-use Rattle.calls.specs.Events.{call, lines}
+use Rattle.calls.specs.Events.{call, register, lines}
 use Rattle.calls.specs.declared.Event.{Event}
 use Rattle.calls.specs.declared.Answer.{Answer}
 use Rattle.calls.specs.Reply.{Reply}
@@ -16,10 +16,6 @@ use Rattle.board.specs.Runs.{finish, replies}
 use Rattle.board.specs.declared.Board.{Board}
 
 -- ---- events
-
--- a preload write to register 1
-unfoldable pub preload1 : ℕ → ℕ → Event
-preload1 m v = record { kind = 2; member = m; selector = 1; spare = 0; v = v; w = 0 }
 
 -- n steps with every line down
 unfoldable pub steps : ℕ → List Event
@@ -101,7 +97,7 @@ entries (suc n) = 0 ∷ 0 ∷ 0 ∷ 128 ∷ entries n
 
 -- h: channel 0 in mode 0x01682030 with preloads 2 and 3, started
 unfoldable pub pulses : List Event
-pulses = call 1 0 0x01682030 ∷ call 2 0 2 ∷ preload1 0 3 ∷ call 6 0 0 ∷ []
+pulses = call 1 0 0x01682030 ∷ call 2 0 2 ∷ register 2 0 1 3 ∷ call 6 0 0 ∷ []
 
 -- request 1: channel 0 in mode 0x40030, OM 1, with n captures held, compare 0 at 2 and mask 1, started
 unfoldable pub heads : ℕ → List Event
@@ -118,6 +114,17 @@ button = call 22 0 3
 -- request 2: a step with the button on pin 47 pressed
 abbrev pub pressed : Event
 pressed = lines 0 (2 ^ 47)
+
+-- the watchdog enabled, with these intervals of its stages
+unfoldable pub staged : ℕ → ℕ → ℕ → List Event
+staged a b c = register 25 0 0 a ∷ register 25 0 1 b ∷ register 25 0 2 c ∷ call 26 0 1 ∷ []
+
+-- the answer of a status read
+abbrev status : ℕ → List ℕ
+status n = 0 ∷ n ∷ 0 ∷ 0 ∷ []
+
+abbrev pub statusRead : Look
+statusRead = answer (call 29 0 0)
 
 -- ---- the table
 
@@ -166,4 +173,19 @@ table =
     ∷ reading (gate 0x02000030 ++ (button ∷ pressed ∷ call 24 0 0 ∷ lines 0 0 ∷ [])) (count 0) (1 ∷ [])
     -- the edge is captured in the step of the button
     ∷ reading (gate 0x30 ++ (call 5 0 32 ∷ []) ++ steps 3 ++ (button ∷ pressed ∷ [])) (answer (call 11 0 0)) (0 ∷ 4 ∷ 0 ∷ 32 ∷ [])
+    -- request 3: with intervals 2, 1 and 1 the stages expire in steps 2, 3 and 4
+    ∷ reading (staged 2 1 1 ++ steps 1) statusRead (status 8) ∷ reading (staged 2 1 1 ++ steps 2) statusRead (status 10)
+    ∷ reading (staged 2 1 1 ++ steps 3) statusRead (status 26) ∷ reading (staged 2 1 1 ++ steps 4) statusRead (status 58)
+    -- with 1, 3 and 2 in steps 1, 4 and 6
+    ∷ reading (staged 1 3 2 ++ steps 3) statusRead (status 10) ∷ reading (staged 1 3 2 ++ steps 4) statusRead (status 26)
+    ∷ reading (staged 1 3 2 ++ steps 5) statusRead (status 26) ∷ reading (staged 1 3 2 ++ steps 6) statusRead (status 58)
+    -- a kick begins all three again
+    ∷ reading (staged 2 1 1 ++ steps 3 ++ (call 27 0 0 ∷ [])) statusRead (status 8)
+    ∷ reading (staged 2 1 1 ++ steps 3 ++ (call 27 0 0 ∷ []) ++ steps 3) statusRead (status 26)
+    -- disabled between stages 1 and 2, which keeps what has expired; enabled again
+    ∷ reading (staged 2 1 1 ++ steps 3 ++ (call 26 0 0 ∷ []) ++ steps 5) statusRead (status 18)
+    ∷ reading (staged 2 1 1 ++ steps 3 ++ (call 26 0 0 ∷ call 26 0 1 ∷ []) ++ steps 3) statusRead (status 26)
+    -- the selector, and an enabled watchdog
+    ∷ reading [] (answer (register 25 0 3 5)) (3 ∷ 0 ∷ 0 ∷ 0 ∷ []) ∷ reading [] (answer (register 25 0 2 5)) (0 ∷ 0 ∷ 0 ∷ 0 ∷ [])
+    ∷ reading [] (answer (register 25 0 1 0)) (3 ∷ 0 ∷ 0 ∷ 0 ∷ []) ∷ reading (staged 2 1 1) (answer (register 25 0 2 5)) (7 ∷ 0 ∷ 0 ∷ 0 ∷ [])
     ∷ []

@@ -1,6 +1,6 @@
 -- The line of a call, and of any six fields, is read as the event.
 -- Assumes nothing.
-use mathlib.Core.Path.{_≡_, refl, ap, sym, _∙_}
+use mathlib.Core.Path.{_≡_, refl, ap, sym, subst, _∙_}
 use mathlib.Core.Bool.{Bool, true, false, cond, _&&_, _||_, and-eq-true-iff}
 use mathlib.Core.List.{List, [], _∷_, _++_, append-assoc}
 use Prim.Native.Nat.{ℕ, zero, suc, _+_, _*_, _/_, _%_, _^_, _≤_, _<_}
@@ -10,7 +10,7 @@ use borrow.Author.Tests.{ltb-true, eqb-true, eqb-false}
 use lib.Dec.{eqb, ltb}
 use lib.ListN.{length}
 use Rattle.words.specs.Table.{tab}
-use Rattle.words.proofs.Cases.{tested, either}
+use Rattle.words.proofs.Cases.{tested, either, neither}
 use Rattle.calls.specs.Events.{call}
 use Rattle.calls.specs.declared.Event.{Event}
 use Rattle.text.specs.Decimal.{decimal}
@@ -21,7 +21,7 @@ use Rattle.kinds.proofs.Names.{Word, name-word, name-length}
 use Rattle.words.proofs.Tables.{tab-at}
 use Rattle.textin.specs.declared.Reading.{Reading}
 use Rattle.textin.specs.Readings.{withField, room, at, starting}
-use Rattle.textout.specs.Prints.{fieldOf, fieldText, fieldsText, has, usual, callText}
+use Rattle.textout.specs.Prints.{fieldOf, fieldText, noneLeft, fieldsText, has, usual, callText}
 use Rattle.textback.proofs.Figures.{read, eight, figures-decimal, some-decimal, read-decimal, figures-eight, some-eight, read-eight, length-eight}
 use Rattle.textback.proofs.Walk.{word-figures, Kept, kept-none, kept-append, kept-word, kept-led, led, led-append, reads, reads-word, reads-led}
 use Rattle.textback.proofs.Takes.{take-name, take-field, ended}
@@ -80,36 +80,48 @@ module _ (e : Event) (r : Ranged e) where
 
 -- ---- the fields that are left, n at most
 
--- which they are, and the event with them
+-- which they are
 goodLeft : ℕ → ℕ → Bool
 goodLeft zero left = true
 goodLeft (suc n) left = cond (eqb left 0) true (ltb 0 (left % 8) && (ltb (left % 8) 7 && goodLeft n (left / 8)))
 
--- where one is left, it is a field, and so are those behind it
+-- where one is left to print, it is a field, and so are those behind it
 record Left (n left : ℕ) : Type 0 where
   pub some : 0 < left % 8
   pub field : left % 8 < 7
   pub rest : goodLeft n (left / 8) ≡ true
 
-left-more : (n left : ℕ) → goodLeft (suc n) left ≡ true → eqb left 0 ≡ false → Left n left
+some-left : (left : ℕ) (e : Event) → noneLeft left e ≡ false → eqb left 0 ≡ false
+unfolding noneLeft
+some-left left e h = neither (eqb left 0) (eqb left 3 && eqb (e .selector) 0) h .0
+
+left-more : (n left : ℕ) (e : Event) → goodLeft (suc n) left ≡ true → noneLeft left e ≡ false → Left n left
 unfolding goodLeft
-left-more n left g q =
-    let a = and-eq-true-iff (ltb 0 (left % 8)) (ltb (left % 8) 7 && goodLeft n (left / 8)) .0 (rw q at g) in
+left-more n left e g q =
+    let a = and-eq-true-iff (ltb 0 (left % 8)) (ltb (left % 8) 7 && goodLeft n (left / 8)) .0 (rw (some-left left e q) at g) in
     let b = and-eq-true-iff (ltb (left % 8) 7) (goodLeft n (left / 8)) .0 (a .1) in
     record { some = ltb-true 0 (left % 8) (a .0); field = ltb-true (left % 8) 7 (b .0); rest = b .1 }
 
-leftOver : ℕ → ℕ → ℕ
-leftOver zero left = left
-leftOver (suc n) left = cond (eqb left 0) left (leftOver n (left / 8))
+-- whether the selector is 0, and by that whether nothing is left to print
+abbrev unselected : Event → Bool
+unselected e = eqb (e .selector) 0
 
-filled : ℕ → ℕ → Event → Event → Event
-filled zero left f e = f
-filled (suc n) left f e = cond (eqb left 0) f (filled n (left / 8) (withField f (left % 8) (fieldOf e (left % 8))) e)
+stops : Bool → ℕ → Bool
+stops z left = eqb left 0 || (eqb left 3 && z)
+
+-- what is left behind them, and the event with them
+leftOver : Bool → ℕ → ℕ → ℕ
+leftOver z zero left = left
+leftOver z (suc n) left = cond (stops z left) left (leftOver z n (left / 8))
+
+filled : Bool → ℕ → ℕ → Event → Event → Event
+filled z zero left f e = f
+filled z (suc n) left f e = cond (stops z left) f (filled z n (left / 8) (withField f (left % 8) (fieldOf e (left % 8))) e)
 
 led-fields : (n left : ℕ) (e : Event) → led (fieldsText n left e) ≡ true
 unfolding fieldsText
 led-fields zero left e = refl
-led-fields (suc n) left e = either (λ l. led l ≡ true) (eqb left 0) refl refl
+led-fields (suc n) left e = either (λ l. led l ≡ true) (noneLeft left e) refl refl
 
 -- one field, and the rest
 reads-field : (n left : ℕ) (f e : Event) (l : List ℕ) → Ranged e → 0 < left → 0 < left % 8 → left % 8 < 7 → led l ≡ true
@@ -124,27 +136,34 @@ reads-field n left f e l r p z m h =
     (take-field left f (fieldText e (left % 8)) (fieldOf e (left % 8)) (x .some) p (x .says) (field-room e r (left % 8) z m))
 
 reads-fields : (n left : ℕ) (f e : Event) (l : List ℕ) → Ranged e → goodLeft n left ≡ true → led l ≡ true
-    → reads (at 1 left 1 f) (fieldsText n left e ++ l) ≡ reads (at 1 (leftOver n left) 1 (filled n left f e)) l
-unfolding fieldsText leftOver filled
+    → reads (at 1 left 1 f) (fieldsText n left e ++ l) ≡ reads (at 1 (leftOver (unselected e) n left) 1 (filled (unselected e) n left f e)) l
+unfolding fieldsText noneLeft stops leftOver filled
 reads-fields zero left f e l r g h = refl
-reads-fields (suc n) left f e l r g h = more (eqb left 0) refl (λ k. reads-fields n (left / 8) (withField f (left % 8) (fieldOf e (left % 8))) e l r k h)
+reads-fields (suc n) left f e l r g h =
+    more (noneLeft left e) refl (λ k. reads-fields n (left / 8) (withField f (left % 8) (fieldOf e (left % 8))) e l r k h)
   where
-    more : (t : Bool) → eqb left 0 ≡ t
+    more : (t : Bool) → noneLeft left e ≡ t
         → (goodLeft n (left / 8) ≡ true
         → reads (at 1 (left / 8) 1 (withField f (left % 8) (fieldOf e (left % 8)))) (fieldsText n (left / 8) e ++ l)
-        ≡ reads (at 1 (leftOver n (left / 8)) 1 (filled n (left / 8) (withField f (left % 8) (fieldOf e (left % 8))) e)) l)
+        ≡ reads (at 1 (leftOver (unselected e) n (left / 8)) 1
+        (filled (unselected e) n (left / 8) (withField f (left % 8) (fieldOf e (left % 8))) e)) l)
         → reads (at 1 left 1 f) (cond t [] ((32 ∷ fieldText e (left % 8)) ++ fieldsText n (left / 8) e) ++ l)
-        ≡ reads (at 1 (cond t left (leftOver n (left / 8))) 1 (cond t f (filled n (left / 8) (withField f (left % 8) (fieldOf e (left % 8))) e))) l
+        ≡ reads (at 1 (cond t left (leftOver (unselected e) n (left / 8))) 1
+        (cond t f (filled (unselected e) n (left / 8) (withField f (left % 8) (fieldOf e (left % 8))) e))) l
     more true q i = refl
     more false q i =
-        let m = left-more n left g q in
-        reads-field n left f e l r (omega (arith, eqb-false left 0 q)) (m .some) (m .field) h ∙ i (m .rest)
+        let m = left-more n left e g q in
+        reads-field n left f e l r (omega (arith, eqb-false left 0 (some-left left e q))) (m .some) (m .field) h ∙ i (m .rest)
 
 -- ---- the fields of a kind
 
-no-left : (k : ℕ) → k < 31 → leftOver 6 (fieldsOf k) ≡ 0
-unfolding leftOver fieldsOf fieldTable tab
-no-left = tab-at 31 (λ k. leftOver 6 (fieldsOf k)) (λ k. 0) refl
+-- the selector is left out: of kind 25, whose last field it is, where it is 0
+pub leftOut : ℕ → Event → Bool
+leftOut k e = eqb k 25 && unselected e
+
+left-over : (e : Event) (k : ℕ) → k < 31 → leftOver (unselected e) 6 (fieldsOf k) ≡ cond (leftOut k e) 3 0
+unfolding stops leftOver leftOut fieldsOf fieldTable tab
+left-over e = tab-at 31 (λ k. leftOver (unselected e) 6 (fieldsOf k)) (λ k. cond (leftOut k e) 3 0) refl
 
 good-left : (k : ℕ) → k < 31 → goodLeft 6 (fieldsOf k) ≡ true
 unfolding goodLeft fieldsOf fieldTable tab
@@ -161,11 +180,18 @@ chosen k e = record {
   w = cond (has (fieldsOf k) 6) (e .w % 2 ^ 64) 0;
 }
 
-filled-chosen : (e : Event) (k : ℕ) → k < 30 → filled 6 (fieldsOf k) (call k 0 0) e ≡ chosen k e
-unfolding filled withField fieldOf chosen has fieldsOf fieldTable tab
-filled-chosen e = tab-at 30 (λ k. filled 6 (fieldsOf k) (call k 0 0) e) (λ k. chosen k e) refl
+-- the event with selector s
+abbrev selected : ℕ → Event → Event
+selected s e = record { kind = e .kind; member = e .member; selector = s; spare = e .spare; v = e .v; w = e .w }
 
-filled-raw : (e : Event) → filled 6 (fieldsOf 30) (call 0 0 0) e
+filled-chosen : (z : Bool) (e : Event) → unselected e ≡ z → (k : ℕ) → k < 30 → filled z 6 (fieldsOf k) (call k 0 0) e ≡ chosen k e
+unfolding stops filled withField fieldOf chosen has fieldsOf fieldTable tab
+filled-chosen true e q k h =
+    subst (λ (s : ℕ). filled true 6 (fieldsOf k) (call k 0 0) (selected s e) ≡ chosen k (selected s e)) (sym (eqb-true (e .selector) 0 q))
+    (tab-at 30 (λ k. filled true 6 (fieldsOf k) (call k 0 0) (selected 0 e)) (λ k. chosen k (selected 0 e)) refl k h)
+filled-chosen false e q k h = tab-at 30 (λ k. filled false 6 (fieldsOf k) (call k 0 0) e) (λ k. chosen k e) refl k h
+
+filled-raw : (z : Bool) (e : Event) → filled z 6 (fieldsOf 30) (call 0 0 0) e
     ≡ record {
       kind = e .kind % 2 ^ 8;
       member = e .member % 2 ^ 8;
@@ -174,8 +200,8 @@ filled-raw : (e : Event) → filled 6 (fieldsOf 30) (call 0 0 0) e
       v = e .v % 2 ^ 32;
       w = e .w;
     }
-unfolding filled withField fieldOf fieldsOf fieldTable
-filled-raw e = refl
+unfolding stops filled withField fieldOf fieldsOf fieldTable
+filled-raw z e = refl
 
 -- a field that is among them or 0
 picked : (t : Bool) (m n : ℕ) → n < m → (t || eqb n 0) ≡ true → cond t (n % m) 0 ≡ n
@@ -200,8 +226,8 @@ chosen-same e r u = λ i. record {
   w = picked (has (fieldsOf (e .kind)) 6) (2 ^ 64) (e .w) (r .w) (u .w) i;
 }
 
-raw-same : (e : Event) → Ranged e → filled 6 (fieldsOf 30) (call 0 0 0) e ≡ e
-raw-same e r = filled-raw e ∙ (λ i. record {
+raw-same : (e : Event) → Ranged e → filled (unselected e) 6 (fieldsOf 30) (call 0 0 0) e ≡ e
+raw-same e r = filled-raw (unselected e) e ∙ (λ i. record {
   kind = mod-eq-of-lt (r .kind) i;
   member = mod-eq-of-lt (r .member) i;
   selector = mod-eq-of-lt (r .selector) i;
@@ -213,24 +239,26 @@ raw-same e r = filled-raw e ∙ (λ i. record {
 -- ---- the line
 
 -- the name at place k and the fields, where they make up event e
-reads-name : (k : ℕ) (e : Event) (l : List ℕ) → 0 < k → k < 31 → Ranged e → filled 6 (fieldsOf k) (call (k % 30) 0 0) e ≡ e → led l ≡ true
-    → reads starting (callText k e ++ l) ≡ reads (ended true false e) l
+reads-name : (k : ℕ) (e : Event) (l : List ℕ) → 0 < k → k < 31 → Ranged e
+    → filled (unselected e) 6 (fieldsOf k) (call (k % 30) 0 0) e ≡ e → led l ≡ true
+    → reads starting (callText k e ++ l) ≡ reads (ended true (leftOut k e) e) l
 unfolding callText
 reads-name k e l z b r q h =
     ap (reads starting) (append-assoc (name k) (fieldsText 6 (fieldsOf k) e) l)
     ∙ reads-word starting (name k) (fieldsText 6 (fieldsOf k) e ++ l) (name-word k b) (led-append (fieldsText 6 (fieldsOf k) e) l (led-fields 6 (fieldsOf k) e) h)
     ∙ ap (λ (s : Reading). reads s (fieldsText 6 (fieldsOf k) e ++ l)) (take-name k z b)
     ∙ reads-fields 6 (fieldsOf k) (call (k % 30) 0 0) e l r (good-left k b) h
-    ∙ ap (λ (s : Reading). reads s l) (λ i. at 1 (no-left k b i) 1 (q i))
+    ∙ ap (λ (s : Reading). reads s l) (λ i. at 1 (left-over e k b i) 1 (q i))
 
 pub reads-call : (e : Event) (l : List ℕ) → Ranged e → 0 < e .kind → e .kind < 30 → Usual e → led l ≡ true
-    → reads starting (callText (e .kind) e ++ l) ≡ reads (ended true false e) l
+    → reads starting (callText (e .kind) e ++ l) ≡ reads (ended true (leftOut (e .kind) e) e) l
 reads-call e l r z b u h =
     reads-name (e .kind) e l z (omega arith) r
-    (ap (λ (k : ℕ). filled 6 (fieldsOf (e .kind)) (call k 0 0) e) (mod-eq-of-lt b) ∙ filled-chosen e (e .kind) b ∙ chosen-same e r u)
+    (ap (λ (k : ℕ). filled (unselected e) 6 (fieldsOf (e .kind)) (call k 0 0) e) (mod-eq-of-lt b)
+    ∙ filled-chosen (unselected e) e refl (e .kind) b ∙ chosen-same e r u)
     h
 
-pub reads-raw : (e : Event) (l : List ℕ) → Ranged e → led l ≡ true → reads starting (callText 30 e ++ l) ≡ reads (ended true false e) l
+pub reads-raw : (e : Event) (l : List ℕ) → Ranged e → led l ≡ true → reads starting (callText 30 e ++ l) ≡ reads (ended true (leftOut 30 e) e) l
 reads-raw e l r h = reads-name 30 e l (omega arith) (omega arith) r (raw-same e r) h
 
 -- ---- the bytes of the line
@@ -238,13 +266,13 @@ reads-raw e l r h = reads-name 30 e l (omega arith) (omega arith) r (raw-same e 
 kept-fields : (n left : ℕ) (e : Event) → Ranged e → goodLeft n left ≡ true → Kept (n * 21) (fieldsText n left e)
 unfolding fieldsText
 kept-fields zero left e r g = kept-none 0
-kept-fields (suc n) left e r g = more (eqb left 0) refl (kept-fields n (left / 8) e r)
+kept-fields (suc n) left e r g = more (noneLeft left e) refl (kept-fields n (left / 8) e r)
   where
-    more : (t : Bool) → eqb left 0 ≡ t → (goodLeft n (left / 8) ≡ true → Kept (n * 21) (fieldsText n (left / 8) e))
+    more : (t : Bool) → noneLeft left e ≡ t → (goodLeft n (left / 8) ≡ true → Kept (n * 21) (fieldsText n (left / 8) e))
         → Kept (suc n * 21) (cond t [] ((32 ∷ fieldText e (left % 8)) ++ fieldsText n (left / 8) e))
     more true q i = kept-none (suc n * 21)
     more false q i =
-        let m = left-more n left g q in
+        let m = left-more n left e g q in
         let x = written e r (left % 8) (m .some) (m .field) in
         let s : 20 + 1 + n * 21 ≡ suc n * 21 = omega arith in
         rw (← s) (kept-append 21 (n * 21) (32 ∷ fieldText e (left % 8)) (fieldsText n (left / 8) e) (kept-led 20 (fieldText e (left % 8)) (x .word) (x .short)) (i (m .rest)))

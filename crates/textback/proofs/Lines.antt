@@ -17,7 +17,7 @@ use Rattle.textout.specs.Prints.{usual, plain, stepText, callText, eventText, t
 use Rattle.textout.proofs.Texts.{plain-named}
 use Rattle.textback.proofs.Walk.{Quiet, Kept, kept-append, led, reads}
 use Rattle.textback.proofs.Takes.{ended, said, repeated, led-times, kept-times}
-use Rattle.textback.proofs.Calls.{Ranged, Usual, reads-call, reads-raw, kept-call}
+use Rattle.textback.proofs.Calls.{Ranged, Usual, leftOut, reads-call, reads-raw, kept-call}
 use Rattle.textback.proofs.Steps.{any-up, reads-step, kept-step}
 
 -- the text x is that of event e: it is read as e, whatever follows it
@@ -75,14 +75,19 @@ unfolding eventText
 says-event e r = tested (Says e) (plain e) named (λ p. says-raw)
   where
     says-raw : Says e (callText 30 e)
-    says-raw = record { fields = true; some = false; go = λ l h. reads-raw e l r h; kept = kept-more (kept-call 30 e (omega arith) r) }
+    says-raw = record { fields = true; some = leftOut 30 e; go = λ l h. reads-raw e l r h; kept = kept-more (kept-call 30 e (omega arith) r) }
 
     says-step : Still e → Says e (stepText e)
     says-step s = record { fields = false; some = any-up (e .v) (e .w); go = λ l h. reads-step e l (s .whole) (s .v) (s .w) h; kept = kept-step e }
 
     says-call : (e .kind ≡ 0 → ⊥) → e .kind < 30 → Usual e → Says e (callText (e .kind) e)
     says-call n k u =
-        record { fields = true; some = false; go = λ l h. reads-call e l r (omega (arith, n)) k u h; kept = kept-more (kept-call (e .kind) e (omega (arith, k)) r) }
+        record {
+          fields = true;
+          some = leftOut (e .kind) e;
+          go = λ l h. reads-call e l r (omega (arith, n)) k u h;
+          kept = kept-more (kept-call (e .kind) e (omega (arith, k)) r);
+        }
 
     named : plain e ≡ true → Says e (cond (eqb (e .kind) 0) (stepText e) (callText (e .kind) e))
     named p = tested (Says e) (eqb (e .kind) 0) (λ k. says-step (still e k p)) (λ k. let n = eqb-false (e .kind) 0 k in says-call n (plain-named e p n) (called e k p))

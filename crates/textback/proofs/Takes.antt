@@ -23,7 +23,7 @@ use Rattle.text.specs.Decimal.{decimal}
 use Rattle.text.proofs.Decimal.{length-decimal}
 use Rattle.textin.specs.declared.Reading.{Reading}
 use Rattle.textin.specs.declared.Line.{Line}
-use Rattle.textin.specs.Readings.{withField, room, raised, at, starting, takeKind, takeField, takeStar, takeInput, takeStep, takeTimes, takeSome, takeWord, whole, finished}
+use Rattle.textin.specs.Readings.{withField, room, raised, at, starting, takeKind, takeField, takeStar, takeLast, takeInput, takeStep, takeTimes, takeSome, takeWord, whole, finished}
 use Rattle.textout.specs.Prints.{timesText}
 use Rattle.textback.proofs.Figures.{read, figures-decimal, some-decimal, read-decimal}
 use Rattle.textback.proofs.Walk.{word-figures, Kept, kept-none, kept-append, kept-led, led, reads, reads-end, reads-led, reads-last}
@@ -47,9 +47,11 @@ take-name k z h =
 
 pub take-field : (left : ℕ) (e : Event) (w : List ℕ) (n : ℕ) → 0 < length w → 0 < left → number w ≡ read n → n < room (left % 8)
     → takeWord (at 1 left 1 e) w ≡ at 1 (left / 8) 1 (withField e (left % 8) n)
-unfolding takeSome takeField
+unfolding takeSome takeField takeLast
 take-field left e w n s l r h =
-    take-some (at 1 left 1 e) w s ∙ rw (ne-eqb left 0 (λ q. omega (arith, q)), r, lt-ltb n (room (left % 8)) h)
+    take-some (at 1 left 1 e) w s
+    ∙ rw (ne-eqb left 0 (λ q. omega (arith, q)), r, lt-ltb n (room (left % 8)) h)
+    (either (λ (t : Reading). t ≡ at 1 (left / 8) 1 (withField e (left % 8) n)) (eqb left 3) refl refl)
 
 -- ---- an input, behind `step` or another input
 
@@ -75,13 +77,14 @@ star-no-input : inputOf star .good ≡ false
 unfolding inputOf figure
 star-no-input = refl
 
--- a line at a stage at which it may end or be repeated: behind the fields, or behind `step`
+-- a line at a stage at which it may end or be repeated: behind the fields, or before a selector that comes last, or behind `step`
 abbrev pub ended : Bool → Bool → Event → Reading
-ended fields some e = cond fields (at 1 0 1 e) (behind some e)
+ended fields some e = cond fields (at 1 (cond some 3 0) 1 e) (behind some e)
 
 take-star : (fields some : Bool) (e : Event) → takeWord (ended fields some e) star ≡ at 4 0 1 e
-unfolding takeWord takeSome takeStep takeInput takeStar same ascii tab
-take-star true some e = refl
+unfolding takeWord takeSome takeStep takeInput takeLast takeStar same ascii tab
+take-star true true e = rw star-no-number
+take-star true false e = refl
 take-star false true e = rw star-no-input
 take-star false false e = rw (star-no-number, star-no-input)
 
@@ -109,7 +112,8 @@ said n e = record { wanted = 0; times = n; event = e }
 
 once : (fields some : Bool) (e : Event) → finished (ended fields some e) ≡ said 1 e
 unfolding finished whole
-once true some e = refl
+once true true e = refl
+once true false e = refl
 once false true e = refl
 once false false e = refl
 

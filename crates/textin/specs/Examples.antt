@@ -4,7 +4,7 @@ use mathlib.Core.Path.{_≡_}
 use mathlib.Core.List.{List, [], _∷_, map}
 use Prim.Native.Nat.{ℕ, _+_, _^_}
 use Prim.Native.String.{String}
-use Rattle.calls.specs.Events.{call, lines}
+use Rattle.calls.specs.Events.{call, register, lines}
 use Rattle.calls.specs.declared.Event.{Event}
 use Rattle.scan.specs.Bytes.{ascii}
 use Rattle.textin.specs.declared.Line.{Line}
@@ -23,10 +23,6 @@ none text = good text 0 (call 0 0 0)
 
 abbrev bad : String → ℕ → Example
 bad text n = record { text = text; says = record { wanted = n; times = 0; event = call 0 0 0 } }
-
--- a call with a selector
-abbrev register : ℕ → ℕ → ℕ → ℕ → Event
-register k m s v = record { kind = k; member = m; selector = s; spare = 0; v = v; w = 0 }
 
 unfoldable pub table : List Example
 table =
@@ -47,6 +43,12 @@ table =
     ∷ good "preload_write 0 1 4294967295" 1 (register 2 0 1 4294967295) ∷ good "preload_write 0 2 0xffffffff" 1 (register 2 0 2 4294967295)
     ∷ bad "preload_write 0 1 4294967296" 6 ∷ bad "preload_write 0 1" 6 ∷ bad "preload_write 0" 4 ∷ bad "preload_write" 3 ∷ bad "start 256" 3 ∷ bad "start a" 3
     ∷ bad "start 0 0" 8
+    -- a selector that comes last
+    ∷ good "watchdog_interval_write 5" 1 (register 25 0 0 5) ∷ good "watchdog_interval_write 5 0" 1 (register 25 0 0 5)
+    ∷ good "watchdog_interval_write 5 1" 1 (register 25 0 1 5) ∷ good "watchdog_interval_write 5 * 2" 2 (register 25 0 0 5)
+    ∷ good "25 5 2 * 3" 3 (register 25 0 2 5) ∷ good "watchdog_interval_write 5 255 # refused when it is run" 1 (register 25 0 255 5)
+    ∷ bad "watchdog_interval_write" 6 ∷ bad "watchdog_interval_write 5 256" 15 ∷ bad "watchdog_interval_write 5 a" 15
+    ∷ bad "watchdog_interval_write 5 1 2" 8
     -- six fields
     ∷ good "raw 200 1 2 3 4 18446744073709551615" 1 (record { kind = 200; member = 1; selector = 2; spare = 3; v = 4; w = 18446744073709551615 })
     ∷ bad "raw" 2 ∷ bad "raw 256" 2 ∷ bad "raw 1 2 3" 5 ∷ bad "raw 1 2 3 4 5" 7 ∷ bad "raw 1 2 3 4 5 18446744073709551616" 7

@@ -54,11 +54,11 @@ abbrev pub starting : Reading
 starting = at 0 0 1 (call 0 0 0)
 
 -- what is wanted next: 1 a kind, 2 to 7 a field, 8 the end or a star behind the fields, 9 the same or an input or V behind `step`, 10 the same
--- or an input behind an input, 11 how many times, 12 the end
+-- or an input behind an input, 11 how many times, 12 the end; 15 as 8, or a selector that comes last
 unfoldable pub wantedBy : Reading → ℕ
 wantedBy s =
     cond (eqb (s .stage) 0) 1
-    (cond (eqb (s .stage) 1) (cond (eqb (s .left) 0) 8 (1 + s .left % 8))
+    (cond (eqb (s .stage) 1) (cond (eqb (s .left) 0) 8 (cond (eqb (s .left) 3) 15 (1 + s .left % 8)))
     (cond (ltb (s .stage) 6) (s .stage + 7)
     (s .left)))
 
@@ -82,6 +82,10 @@ takeField s w =
 unfoldable pub takeStar : Reading → List ℕ → Reading
 takeStar s w = cond (same w (ascii "*")) (at 4 0 (s .times) (s .event)) (spoilt s)
 
+-- a selector that comes last may be left out, and is then 0
+unfoldable pub takeLast : Reading → List ℕ → Reading
+takeLast s w = cond (number w .good) (takeField s w) (takeStar s w)
+
 unfoldable pub takeInput : Reading → List ℕ → Reading
 takeInput s w = cond (inputOf w .good) (at 3 0 (s .times) (raised (s .event) (inputOf w))) (takeStar s w)
 
@@ -98,7 +102,7 @@ takeTimes s w =
 unfoldable pub takeSome : Reading → List ℕ → Reading
 takeSome s w =
     cond (eqb (s .stage) 0) (takeKind s w)
-    (cond (eqb (s .stage) 1) (cond (eqb (s .left) 0) (takeStar s w) (takeField s w))
+    (cond (eqb (s .stage) 1) (cond (eqb (s .left) 0) (takeStar s w) (cond (eqb (s .left) 3) (takeLast s w) (takeField s w)))
     (cond (eqb (s .stage) 2) (takeStep s w)
     (cond (eqb (s .stage) 3) (takeInput s w)
     (cond (eqb (s .stage) 4) (takeTimes s w)
@@ -110,8 +114,9 @@ takeWord s w = cond (eqb (length w) 0) s (takeSome s w)
 
 -- ---- the line
 
+-- it may end here, behind an event: also before a selector that comes last
 unfoldable pub whole : Reading → Bool
-whole s = eqb (s .stage) 2 || eqb (s .stage) 3 || eqb (s .stage) 5 || (eqb (s .stage) 1 && eqb (s .left) 0)
+whole s = eqb (s .stage) 2 || eqb (s .stage) 3 || eqb (s .stage) 5 || (eqb (s .stage) 1 && (eqb (s .left) 0 || eqb (s .left) 3))
 
 -- a line without words says nothing, no event and nothing wanted
 unfoldable pub finished : Reading → Line

@@ -7,7 +7,7 @@ ghost use lib.Dec.{ltb};
 ghost use Rattle.words.specs.Bits.{putBit};
 ghost use Rattle.calls.specs.Events.{call};
 ghost use Rattle.scan.specs.Parts.{parts, between, over};
-ghost use Rattle.textin.specs.Readings.{withField, room, raised, at, starting, wantedBy, spoilt, takeKind, takeField, takeStar, takeInput, takeStep, takeTimes, takeSome, takeWord, whole, finished, lineOf};
+ghost use Rattle.textin.specs.Readings.{withField, room, raised, at, starting, wantedBy, spoilt, takeKind, takeField, takeStar, takeLast, takeInput, takeStep, takeTimes, takeSome, takeWord, whole, finished, lineOf};
 use crate::Line;
 use crate::Reading;
 use calls::Event;
@@ -147,7 +147,13 @@ impl Reading {
             return 1;
         }
         if self.stage == FIELDS {
-            return if self.left == 0 { 8 } else { 1 + self.left % 8 };
+            if self.left == 0 {
+                return 8;
+            }
+            if self.left == kinds::SELECTOR_LAST {
+                return 15;
+            }
+            return 1 + self.left % 8;
         }
         if self.stage < BAD {
             return self.stage + 7;
@@ -206,6 +212,17 @@ impl Reading {
         self.spoilt()
     }
 
+    // The word is a selector that comes last, or, where it is left out, the star.
+    fn take_last(self, w: &[u8]) -> Reading
+        ensures { λ r. ⌜ r ≡ takeLast self (now (w .entry)) ⌝ }
+    {
+        let n = scan::number(w);
+        if n.good {
+            return self.take_field(w);
+        }
+        self.take_star(w)
+    }
+
     // The word is an input that is up, or the star.
     fn take_input(self, w: &[u8]) -> Reading
         ensures { λ r. ⌜ r ≡ takeInput self (now (w .entry)) ⌝ }
@@ -253,6 +270,9 @@ impl Reading {
             if self.left == 0 {
                 return self.take_star(w);
             }
+            if self.left == kinds::SELECTOR_LAST {
+                return self.take_last(w);
+            }
             return self.take_field(w);
         }
         if self.stage == STEP {
@@ -277,14 +297,14 @@ impl Reading {
         self.take_some(w)
     }
 
-    // Whether the line may end here, behind an event.
+    // Whether the line may end here, behind an event: also before a selector that comes last.
     fn is_whole(self) -> bool
         ensures { λ r. ⌜ r ≡ whole self ⌝ }
     {
         (self.stage == STEP)
             | (self.stage == INPUTS)
             | (self.stage == END)
-            | ((self.stage == FIELDS) & (self.left == 0))
+            | ((self.stage == FIELDS) & ((self.left == 0) | (self.left == kinds::SELECTOR_LAST)))
     }
 
     // What the line says.

@@ -8,11 +8,11 @@ use Rattle.calls.specs.Reply.{Reply, accept}
 use Rattle.calls.specs.declared.Event.{Event}
 use Rattle.board.specs.Step.{stepped}
 use Rattle.board.specs.Respond.{called, respond, outcome}
-use Rattle.board.specs.Handed.{repairedBoard, lostCleared, applied}
+use Rattle.board.specs.Handed.{repairedBoard, kept, applied}
 use Rattle.board.specs.declared.Board.{Board}
 use Rattle.board.specs.declared.Outcome.{Outcome}
 use Rattle.board.proofs.Steps.{of-step, of-call}
-use Rattle.board.proofs.Kept.{stored, cleared, unchanged}
+use Rattle.board.proofs.Kept.{stored}
 use Rattle.board.proofs.entry.apply.Statement.{statement}
 use Rattle.board.proofs.entry.apply.Tie as tie
 
@@ -22,26 +22,13 @@ of-stepped b e is =
     let r = of-step (repairedBoard b) e is in
     ap outcome (sym (stored b e (ap (λ (x : Reply Board). x .answer .result) r) ∙ r))
 
--- o is what a call on the repaired board gave
-module _ (b : Board) (e : Event) (o : Outcome) (s : Board) (other : isStep e ≡ false) (q : s ≡ repairedBoard b) (p : o ≡ outcome (called s e)) where
-  same : o ≡ outcome (respond (repairedBoard b) e)
-  same = rw (← q) (p ∙ ap outcome (sym (of-call s e other)))
-
-  answer : o .answer ≡ respond (repairedBoard b) e .answer
-  answer = ap (λ x. x .answer) same
-
-  result : o .answer .result ≡ respond (repairedBoard b) e .answer .result
-  result = ap (λ a. a .result) answer
-
-  of-stored : o .answer .result ≡ 0 → o ≡ outcome (applied b e)
-  of-stored h = same ∙ ap outcome (sym (stored b e (sym result ∙ h)))
-
-  module _ (refused : o .answer .result ≡ 0 → ⊥) where
-    of-cleared : (x : Board) → x ≡ lostCleared (e .member) b → o .answer .result ≡ 6 → record { board = x; answer = o .answer } ≡ outcome (applied b e)
-    of-cleared x k six = rw (k, answer) (ap outcome (sym (cleared b e (λ z. refused (result ∙ z)) (sym result ∙ six))))
-
-    of-unchanged : (o .answer .result ≡ 6 → ⊥) → record { board = b; answer = o .answer } ≡ outcome (applied b e)
-    of-unchanged six = rw answer (ap outcome (sym (unchanged b e (λ z. refused (result ∙ z)) (λ z. six (result ∙ z)))))
+-- o is what a call on the repaired board s gave
+of-called : (b : Board) (e : Event) (o : Outcome) (s x : Board) → isStep e ≡ false → s ≡ repairedBoard b → o ≡ outcome (called s e)
+    → x ≡ kept b (e .member) (o .answer .result) (o .board) → record { board = x; answer = o .answer } ≡ outcome (applied b e)
+unfolding applied
+of-called b e o s x other q p k =
+    let same : o ≡ outcome (respond (repairedBoard b) e) = rw (← q) (p ∙ ap outcome (sym (of-call s e other))) in
+    rw (k, same)
 
 mended-requires : tie.Need-mended-requires
 mended-requires c κs = search needs
@@ -65,35 +52,16 @@ returns c =
 call-requires : tie.Need-call-requires
 call-requires c κs = search needs
 
+kept-requires : tie.Need-kept-requires
+kept-requires c κs = search needs
+
 returns-2 : tie.Need-returns-2
 returns-2 c =
     let called = c .before .before .before in
     let test = called .before .before in
     let a = test .before .before .args in
     let other = sym (test .is-step .ensures) ∙ called .before .if1 .left in
-    of-stored (a .board) (a .event) _ _ other (test .before .mended .ensures) (called .call .ensures) (c .if2 .taken)
-
-clear-lost-requires : tie.Need-clear-lost-requires
-clear-lost-requires c κs = search needs
-
-returns-3 : tie.Need-returns-3
-returns-3 c =
-    let six = c .before in
-    let none = six .before .before in
-    let called = none .before .before .before in
-    let test = called .before .before in
-    let a = test .before .before .args in
-    let other = sym (test .is-step .ensures) ∙ called .before .if1 .left in
-    of-cleared (a .board) (a .event) _ _ other (test .before .mended .ensures) (called .call .ensures) (none .if2 .left) _ (c .clear-lost .ensures) (six .if3 .taken)
-
-returns-4 : tie.Need-returns-4
-returns-4 c =
-    let none = c .before .before in
-    let called = none .before .before .before in
-    let test = called .before .before in
-    let a = test .before .before .args in
-    let other = sym (test .is-step .ensures) ∙ called .before .if1 .left in
-    of-unchanged (a .board) (a .event) _ _ other (test .before .mended .ensures) (called .call .ensures) (none .if2 .left) (c .if3 .left)
+    of-called (a .board) (a .event) _ _ _ other (test .before .mended .ensures) (called .call .ensures) (c .kept .ensures)
 
 pub apply-spec : {M : Type 1} → statement M
 apply-spec =
@@ -105,7 +73,5 @@ apply-spec =
     number-requires
     returns
     call-requires
-    returns-2
-    clear-lost-requires
-    returns-3
-    returns-4)
+    kept-requires
+    returns-2)

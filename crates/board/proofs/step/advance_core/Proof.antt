@@ -11,15 +11,19 @@ watch-requires c κs = search needs
 advance-requires : tie.Need-advance-requires
 advance-requires c κs = search needs
 
+has-expired-requires : tie.Need-has-expired-requires
+has-expired-requires c κs = search needs
+
 guard-requires : tie.Need-guard-requires
 guard-requires c κs = search needs
 
 returns : tie.Need-returns
 unfolding coreNext
 returns c =
-    let c₁ = c .before in
-    let c₂ = c₁ .before in
-    rw (c .guard .ensures, c₁ .advance .ensures, c₂ .watch .ensures)
+    let clock = c .before .before in
+    rw (c .guard .ensures, c .before .has-expired .ensures, clock .advance .ensures, clock .before .watch .ensures)
 
 pub advance-core-spec : {M : Type 1} → statement M
-advance-core-spec = tie.close (tie.spec watch-requires advance-requires guard-requires returns)
+advance-core-spec =
+    tie.close
+    (tie.spec watch-requires advance-requires has-expired-requires guard-requires returns)

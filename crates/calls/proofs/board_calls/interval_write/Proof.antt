@@ -12,12 +12,17 @@ returns : tie.Need-returns
 unfolding intervalWrite
 returns c = rw (c .refuse .ensures, c .before .if1 .taken)
 
+set-interval-requires : tie.Need-set-interval-requires
+set-interval-requires c κs = search needs
+
 with-watchdog-requires : tie.Need-with-watchdog-requires
 with-watchdog-requires c κs = search needs
 
 returns-2 : tie.Need-returns-2
 unfolding intervalWrite
-returns-2 c = rw (c .with-watchdog .ensures, c .before .if1 .left)
+returns-2 c = rw (c .with-watchdog .ensures, c .before .set-interval .ensures, c .before .before .if1 .left)
 
 pub interval-write-spec : {M : Type 1} → statement M
-interval-write-spec = tie.close (tie.spec refuse-requires returns with-watchdog-requires returns-2)
+interval-write-spec =
+    tie.close
+    (tie.spec refuse-requires returns set-interval-requires with-watchdog-requires returns-2)

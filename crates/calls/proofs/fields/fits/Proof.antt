@@ -5,8 +5,8 @@ use borrow.Author.Needs.{needs}
 use Rattle.calls.proofs.fields.fits.Statement.{statement}
 use Rattle.calls.proofs.fields.fits.Tie as tie
 
-pick-requires : tie.Need-pick-requires
-pick-requires c κs = search needs
+selectors-requires : tie.Need-selectors-requires
+selectors-requires c κs = search needs
 
 limit-requires : tie.Need-limit-requires
 limit-requires c κs = search needs
@@ -17,16 +17,12 @@ is-good-requires c κs = search needs
 cast-result : tie.Need-cast-result
 cast-result c = search needs
 
-cast-result-2 : tie.Need-cast-result-2
-cast-result-2 c = search needs
-
 returns : tie.Need-returns
 unfolding fits
 returns c =
     let good = c .before .before .before .before .before .before .before in
-    rw (good .is-good .ensures, good .before .limit .ensures, good .before .before .pick .ensures)
+    rw (good .is-good .ensures, good .before .limit .ensures, good .before .before .selectors .ensures)
 
 pub fits-spec : {M : Type 1} → statement M
 fits-spec =
-    tie.close
-    (tie.spec pick-requires limit-requires is-good-requires cast-result cast-result-2 returns)
+    tie.close (tie.spec selectors-requires limit-requires is-good-requires cast-result returns)

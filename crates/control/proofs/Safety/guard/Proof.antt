@@ -1,17 +1,13 @@
 -- `control::Safety::guard` meets its contract.
 -- Assumes nothing.
-use mathlib.Core.Path.{_≡_, refl, _∙_}
-use mathlib.Core.Bool.{Bool, true, false, _&&_, _||_}
+use mathlib.Core.Path.{_≡_, _∙_}
+use mathlib.Core.Bool.{Bool, false, _&&_, _||_, or-false}
 use mathlib.Core.Logic.{⊎-elim}
 use borrow.Author.Needs.{needs}
 use Rattle.control.specs.Safety.{pinTriggers, watchdogTriggers, withSafemode, guarded}
 use Rattle.control.specs.declared.Safety.{Safety}
 use Rattle.control.proofs.Safety.guard.Statement.{statement}
 use Rattle.control.proofs.Safety.guard.Tie as tie
-
-or-false : (t : Bool) → (t || false) ≡ t
-or-false true = refl
-or-false false = refl
 
 watchdog-triggers-requires : tie.Need-watchdog-triggers-requires
 watchdog-triggers-requires c κs = search needs
