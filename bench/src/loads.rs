@@ -16,7 +16,7 @@ pub struct Load {
     pub events: Vec<Event>,
 }
 
-pub const NAMES: [&str; 4] = ["busy", "idle", "overflow", "calls"];
+pub const NAMES: [&str; 5] = ["busy", "idle", "overflow", "calls", "quiet"];
 
 /// The load of that name.
 pub fn load(name: &str) -> Option<Load> {
@@ -25,6 +25,7 @@ pub fn load(name: &str) -> Option<Load> {
         "idle" => Some(idle()),
         "overflow" => Some(overflow()),
         "calls" => Some(calls()),
+        "quiet" => Some(quiet()),
         _ => None,
     }
 }
@@ -237,6 +238,14 @@ fn idle() -> Load {
     Load {
         setup: Vec::new(),
         events: (0..LENGTH).map(|_| lines.step()).collect(),
+    }
+}
+
+/// Steps with all lines low on a board at reset.
+fn quiet() -> Load {
+    Load {
+        setup: Vec::new(),
+        events: vec![Event::step(0, 0); LENGTH],
     }
 }
 

@@ -5,6 +5,8 @@
 //!                                if a case takes more instructions than the file limits allows
 //!     bench quick                compares, then times the loads that have steps
 //!     bench compare [SEED [N]]   compares N random histories, from that seed on
+//!     bench week                 times long runs of quiet and of busy steps, and tells what a week
+//!                                of them takes
 //!     bench vectors DIR          compares what the Rust program prints with recorded logs
 //!     bench count CASE SIDE N    runs the first N events of a case once; SIDE is proved, plain or
 //!                                tuned
@@ -28,6 +30,7 @@ mod random;
 mod side;
 mod table;
 mod timing;
+mod week;
 
 use model::channel::Mode;
 use model::{Plain, Tuned};
@@ -50,6 +53,7 @@ fn main() -> ExitCode {
         ["compare"] => compared(SEED, compare::HISTORIES),
         ["compare", seed] => number(seed).and_then(|seed| compared(seed, compare::HISTORIES)),
         ["compare", seed, n] => number(seed).and_then(|seed| compared(seed, number(n)?)),
+        ["week"] => week::print(),
         ["vectors", folder] => vectors(folder),
         ["count", case, side, n] => count_once(case, side, n),
         ["log", Plain::NAME] => log::<Plain>(),

@@ -63,6 +63,32 @@ impl Case {
         }
     }
 
+    /// How many events the load has.
+    pub fn events(&self) -> usize {
+        self.events.len()
+    }
+
+    /// How many of them are steps.
+    pub fn steps(&self) -> usize {
+        self.events.iter().filter(|event| event.kind == 0).count()
+    }
+
+    /// Runs the load so many times in each part with the proved code, each time on the board that the
+    /// last one has left; the seconds of each part.
+    pub fn long_run(&mut self, parts: usize, passes: usize) -> Vec<f64> {
+        let mut board = self.proved;
+        let mut part = || {
+            let start = Instant::now();
+            for _ in 0..passes {
+                let ran = proved::run(board, black_box(&self.records), &mut self.answers);
+                assert_eq!(ran.answered, self.events.len());
+                board = ran.board;
+            }
+            start.elapsed().as_secs_f64()
+        };
+        (0..parts).map(|_| part()).collect()
+    }
+
     /// How many passes fill a round.
     fn passes(&mut self, side: Side) -> usize {
         self.time(side, 1);

@@ -1,2 +1,2 @@
-pub mod Quiet
+pub mod Divisors
 pub mod Same

@@ -1,7 +1,7 @@
 // The board's own part: the clock with its ticks, the watchdog, and safemode with what sets it.
 ghost use mathlib.Core.Path.{_≡_};
-ghost use Prim.Native.Nat.{_-_};
-ghost use Rattle.control.specs.Clock.{prescalerNext, risesAt, advanced, ticks, repairedClock};
+ghost use Prim.Native.Nat.{_/_, _^_, _<_};
+ghost use Rattle.control.specs.Clock.{prescalerNext, risesAt, advanced, tick, ticks, repairedClock};
 ghost use Rattle.words.specs.Range.{orReset};
 ghost use Rattle.control.specs.Watchdog.{hasExpired, restsAfter, expiredAfter, watched, kicked, switched, withInterval, resetInterval, isInterval, watchdogInRange, repairedWatchdog};
 ghost use Rattle.control.specs.Safety.{pinTriggers, activeLevel, watchdogTriggers, guarded, repairedSafety};
@@ -12,6 +12,20 @@ const PRESCALE: u32 = 500_000_000;
 
 // The steps of a microsecond: the timestamp rises.
 const MICROSECOND: u32 = 50;
+
+// The ticks, and the divisor of each: the tick is high where it divides the prescaler.
+const TICKS: usize = 8;
+
+const DIVISORS: [u32; TICKS] = [
+    500_000_000,
+    50_000_000,
+    5_000_000,
+    500_000,
+    50_000,
+    5_000,
+    500,
+    50,
+];
 
 // The stages of the watchdog, and the interval of each at reset.
 pub const STAGES: usize = 3;
@@ -101,39 +115,49 @@ pub fn rises_at(p: u32) -> bool
     p % MICROSECOND == 0
 }
 
-// The eight ticks: bit x is the tick of XS 8 + x.
+// The divisor of tick x, of XS 8 + x, from the table.
+fn divisor(x: usize) -> u32
+    requires { ⌜ x < 8 ⌝ }
+    ensures { λ r. ⌜ r ≡ 500_000_000 / 10 ^ x ⌝ }
+{
+    DIVISORS[x]
+}
+
+// Tick x is high in a step with this prescaler.
+fn tick(p: u32, x: usize) -> bool
+    requires { ⌜ x < 8 ⌝ }
+    ensures { λ r. ⌜ r ≡ tick p x ⌝ }
+{
+    p % divisor(x) == 0
+}
+
+// The eight ticks: bit x is tick x. Each divisor divides those before it, so that no tick is high
+// before one that is low: from the last to the first, all are found at the first that is low. In most
+// steps that is the last, since 50 does not divide their prescaler.
 pub fn ticks(p: u32) -> u64
     ensures { λ r. ⌜ r ≡ ticks p ⌝ }
 {
-    if !rises_at(p) {
-        return 0;
+    let mut found: u64 = 0;
+    let mut x: usize = TICKS;
+    while 0 < x {
+        x -= 1;
+        if !tick(p, x) {
+            return found;
+        }
+        found = found | (1 << x as u64);
     }
-    let slow = words::flags(
-        p % PRESCALE == 0,
-        p % 50_000_000 == 0,
-        p % 5_000_000 == 0,
-        p % 500_000 == 0,
-    );
-    let fast = words::flags(p % 50_000 == 0, p % 5_000 == 0, p % 500 == 0, p % 50 == 0);
-    (slow + 16 * fast) as u64
-}
-
-// A rest above 0 is lowered by 1.
-fn lowered(rest: u32) -> u32
-    ensures { λ r. ⌜ r ≡ rest - 1 ⌝ }
-{
-    if 0 < rest { rest - 1 } else { 0 }
+    found
 }
 
 // The rests after a step: a stage runs where it is the first or the one before it has expired.
 fn rests_after(expired: u32, rests: [u32; STAGES]) -> [u32; STAGES]
     ensures { λ r. ⌜ r ≡ restsAfter 3 expired rests ⌝ }
 {
-    let first = lowered(rests[0]);
+    let first = words::less_one(rests[0]);
     match expired {
         0 => [first, rests[1], rests[2]],
-        1 => [first, lowered(rests[1]), rests[2]],
-        _ => [first, lowered(rests[1]), lowered(rests[2])],
+        1 => [first, words::less_one(rests[1]), rests[2]],
+        _ => [first, words::less_one(rests[1]), words::less_one(rests[2])],
     }
 }
 

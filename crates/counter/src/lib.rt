@@ -149,7 +149,7 @@ impl Channel {
         self.counts = c;
         self.timestamps = t;
         self.reasons = r;
-        self.held = queue::less_one(self.held);
+        self.held = words::less_one(self.held);
         self
     }
 

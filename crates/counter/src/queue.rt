@@ -1,7 +1,7 @@
 // The arrays of a capture queue.
 ghost use mathlib.Core.Path.{_≡_};
 ghost use mathlib.Core.Bool.{cond};
-ghost use Prim.Native.Nat.{_-_, _<_};
+ghost use Prim.Native.Nat.{_<_};
 ghost use lib.ListN.{set};
 ghost use Rattle.counter.specs.Queue.{shifted};
 ghost use Rattle.counter.specs.Repair.{areReasons, inReasons};
@@ -51,13 +51,6 @@ pub fn put(a: [u32; QUEUE], at: u32, x: u32) -> [u32; QUEUE]
         pick(at == 14, x, a[14]),
         pick(at == 15, x, a[15]),
     ]
-}
-
-// One less, and 0 of 0.
-pub fn less_one(n: u32) -> u32
-    ensures { λ r. ⌜ r ≡ n - 1 ⌝ }
-{
-    if n == 0 { 0 } else { n - 1 }
 }
 
 // An array without its first element, a 0 at the end.

@@ -5,6 +5,7 @@
 mod lists;
 mod ranges;
 mod show;
+mod ticks;
 
 use board::Board;
 use calls::Event;
@@ -91,7 +92,7 @@ fn broken() -> Board {
 }
 
 // A reset board with another channel 0 and another part of its own.
-fn board_with(c: Channel, core: Core) -> Board {
+pub fn board_with(c: Channel, core: Core) -> Board {
     let mut b = board::reset();
     b.channels[0] = c;
     b.core = core;
@@ -230,4 +231,5 @@ fn main() {
     ranges::show_ranges();
     show_points();
     show_stages();
+    ticks::show_ticks();
 }

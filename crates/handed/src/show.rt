@@ -8,7 +8,7 @@ use ports::Pins;
 use ports::Virtuals;
 
 // Bytes to standard output.
-fn text(t: &[u8]) {
+pub fn text(t: &[u8]) {
     io::write_all(STDOUT_FILENO, t);
 }
 
@@ -19,7 +19,7 @@ fn number(name: &[u8], n: u64) {
 }
 
 // The same of a u32.
-fn small(name: &[u8], n: u32) {
+pub fn small(name: &[u8], n: u32) {
     number(name, n as u64);
 }
 

@@ -2,7 +2,7 @@
 // bits its result has, and the crates above go by that. A word function ends in a remainder by
 // 2^48, so it takes every u64.
 ghost use mathlib.Core.Path.{_≡_};
-ghost use Prim.Native.Nat.{_<_};
+ghost use Prim.Native.Nat.{_-_, _<_};
 ghost use mathlib.Core.Bool.{not, cond, _||_, _&&_};
 ghost use lib.Dec.{eqb, ltb};
 ghost use Rattle.words.specs.Bits.{bit, flag, flags, word, putBit};
@@ -28,6 +28,13 @@ pub fn flags(a: bool, b: bool, c: bool, d: bool) -> u32
     ensures small { λ r. ⌜ r < 16 ⌝ }
 {
     flag(a) + 2 * flag(b) + 4 * flag(c) + 8 * flag(d)
+}
+
+// One less, and 0 of 0.
+pub fn less_one(n: u32) -> u32
+    ensures { λ r. ⌜ r ≡ n - 1 ⌝ }
+{
+    if n == 0 { 0 } else { n - 1 }
 }
 
 // `n` where it is below the limit, else the value at reset.

@@ -9,11 +9,11 @@ use borrow.Author.Needs.{needs}
 use Rattle.control.proofs.rests_after.Statement.{statement}
 use Rattle.control.proofs.rests_after.Tie as tie
 
-array-read-lowered : tie.Need-array-read-lowered
-array-read-lowered c = search needs
+array-read-less-one : tie.Need-array-read-less-one
+array-read-less-one c = search needs
 
-lowered-requires : tie.Need-lowered-requires
-lowered-requires c κs = search needs
+less-one-requires : tie.Need-less-one-requires
+less-one-requires c κs = search needs
 
 array-read-t11 : tie.Need-array-read-t11
 array-read-t11 c = search needs
@@ -21,34 +21,34 @@ array-read-t11 c = search needs
 array-read-t14 : tie.Need-array-read-t14
 array-read-t14 c = search needs
 
-array-read-lowered-2 : tie.Need-array-read-lowered-2
-array-read-lowered-2 c = search needs
+array-read-less-one-2 : tie.Need-array-read-less-one-2
+array-read-less-one-2 c = search needs
 
-lowered-requires-2 : tie.Need-lowered-requires-2
-lowered-requires-2 c κs = search needs
+less-one-requires-2 : tie.Need-less-one-requires-2
+less-one-requires-2 c κs = search needs
 
 array-read-t21 : tie.Need-array-read-t21
 array-read-t21 c = search needs
 
-array-read-lowered-3 : tie.Need-array-read-lowered-3
-array-read-lowered-3 c = search needs
+array-read-less-one-3 : tie.Need-array-read-less-one-3
+array-read-less-one-3 c = search needs
 
-lowered-requires-3 : tie.Need-lowered-requires-3
-lowered-requires-3 c κs = search needs
+less-one-requires-3 : tie.Need-less-one-requires-3
+less-one-requires-3 c κs = search needs
 
-array-read-lowered-4 : tie.Need-array-read-lowered-4
-array-read-lowered-4 c = search needs
+array-read-less-one-4 : tie.Need-array-read-less-one-4
+array-read-less-one-4 c = search needs
 
-lowered-requires-4 : tie.Need-lowered-requires-4
-lowered-requires-4 c κs = search needs
+less-one-requires-4 : tie.Need-less-one-requires-4
+less-one-requires-4 c κs = search needs
 
 returns : tie.Need-returns
 unfolding restsAfter tab
-returns c = rw (c .before .lowered .ensures, c .match .keys1)
+returns c = rw (c .before .less-one .ensures, c .match .keys1)
 
 returns-2 : tie.Need-returns-2
 unfolding restsAfter tab
-returns-2 c = rw (c .lowered2 .ensures, c .before .before .lowered .ensures, c .before .match .keys2)
+returns-2 c = rw (c .less-one2 .ensures, c .before .before .less-one .ensures, c .before .match .keys2)
 
 returns-3 : tie.Need-returns-3
 unfolding restsAfter tab
@@ -57,23 +57,23 @@ returns-3 c =
     let r = m .match .rest in
     let expired = m .before .before .args .expired in
     let begun : 1 < expired = omega (arith, r .1, r .0 .1) in
-    rw (c .lowered4 .ensures, c .before .lowered3 .ensures, m .before .lowered .ensures, lt-ltb 0 expired (omega arith), lt-ltb 1 expired begun)
+    rw (c .less-one4 .ensures, c .before .less-one3 .ensures, m .before .less-one .ensures, lt-ltb 0 expired (omega arith), lt-ltb 1 expired begun)
 
 pub rests-after-spec : {M : Type 1} → statement M
 rests-after-spec =
     tie.close
     (tie.spec
-    array-read-lowered
-    lowered-requires
+    array-read-less-one
+    less-one-requires
     array-read-t11
     array-read-t14
-    array-read-lowered-2
-    lowered-requires-2
+    array-read-less-one-2
+    less-one-requires-2
     array-read-t21
-    array-read-lowered-3
-    lowered-requires-3
-    array-read-lowered-4
-    lowered-requires-4
+    array-read-less-one-3
+    less-one-requires-3
+    array-read-less-one-4
+    less-one-requires-4
     returns
     returns-2
     returns-3)

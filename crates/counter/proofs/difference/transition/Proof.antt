@@ -3,8 +3,6 @@
 use native.Mathlib.Omega.{arith}
 use Rattle.counter.proofs.Signed.{back}
 use Rattle.counter.proofs.Turns.{looked-up, transition-small}
-use mathlib.Core.Path.{refl}
-use Rattle.counter.proofs.Turns.{looked-up}
 use Rattle.words.specs.Table.{tab}
 use Rattle.counter.specs.Quadrature.{transition}
 use borrow.Author.Needs.{needs}
@@ -29,7 +27,7 @@ array-copy-out-result c = search needs
 returns : tie.Need-returns
 unfolding tab transition
 returns c = let a = c .before .args in
-    rw (looked-up (a .before) (a .now) _ refl) (back (transition (a .before) (a .now)) (omega (arith, transition-small (a .before) (a .now))))
+    rw (looked-up (a .before) (a .now)) (back (transition (a .before) (a .now)) (omega (arith, transition-small (a .before) (a .now))))
 
 pub transition-spec : {M : Type 1} → statement M
 transition-spec =
