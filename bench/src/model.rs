@@ -1,6 +1,6 @@
-//! The machine of document 01 as a Rust model that changes its board in place. It starts from
-//! reset; boards handed in are not repaired. There are two of it, plain and tuned, which differ in
-//! the mode and the step of the channels and share the rest.
+//! The machine of document 01, as the requests in force amend it, as a Rust model that changes its
+//! board in place. It starts from reset; boards handed in are not repaired. There are two of it,
+//! plain and tuned, which differ in the mode and the step of the channels and share the rest.
 pub mod channel;
 mod plain;
 mod queue;
@@ -302,8 +302,9 @@ impl<M: Mode> Board<M> {
         match e.kind {
             13 => pins.set_source(e.member, e.v),
             14 => put(&mut pins.own, e.member, e.v),
-            15 if self.writes => put(&mut pins.safe_data, e.member, e.v),
-            16 if self.writes => put(&mut pins.safe_enable, e.member, e.v),
+            15 | 16 if !self.writes => return refused(12),
+            15 => put(&mut pins.safe_data, e.member, e.v),
+            16 => put(&mut pins.safe_enable, e.member, e.v),
             17 => return tell((pins.level >> e.member) as u32 & 1),
             _ => {}
         }
@@ -320,8 +321,9 @@ impl<M: Mode> Board<M> {
         let virtuals = &mut self.virtuals;
         match e.kind {
             18 => put(&mut virtuals.own, e.member, e.v),
-            19 if self.writes => put(&mut virtuals.safe_data, e.member, e.v),
-            20 if self.writes => put(&mut virtuals.safe_enable, e.member, e.v),
+            19 | 20 if !self.writes => return refused(12),
+            19 => put(&mut virtuals.safe_data, e.member, e.v),
+            20 => put(&mut virtuals.safe_enable, e.member, e.v),
             21 => return tell((virtuals.own >> e.member) as u32 & 1),
             _ => {}
         }

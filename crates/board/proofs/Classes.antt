@@ -1,11 +1,12 @@
 -- The classes of kinds told apart by numbers.
 -- Assumes nothing.
-use mathlib.Core.Path.{_≡_, refl, ap, sym, _∙_}
-use mathlib.Core.Bool.{Bool, true, false, cond}
+use mathlib.Core.Path.{_≡_, ap, sym, _∙_, subst}
+use mathlib.Core.Bool.{true, false}
 use Prim.Native.Nat.{ℕ, _≤_, _<_}
 use native.Mathlib.Omega.{arith}
 use lib.Dec.{eqb, ltb}
-use borrow.Author.Tests.{ne-eqb, eqb-false, ltb-true, ltb-false}
+use borrow.Author.Tests.{ne-eqb, eqb-true, eqb-false, ltb-true, ltb-false}
+use Rattle.words.proofs.Cases.{tested}
 use Rattle.board.specs.Respond.{classOf}
 use Rattle.board.specs.declared.Class.{Class}
 use Rattle.board.specs.declared.Class.the-variants.{Step, OnChannel, OnPin, OnVirtual, OnBoard, Unknown}
@@ -18,19 +19,29 @@ code OnVirtual = 3
 code OnBoard = 4
 code Unknown = 5
 
+-- a number is not two
+pub other : (n a b : ℕ) → eqb n a ≡ true → eqb a b ≡ false → eqb n b ≡ false
+other n a b h d = ap (λ k. eqb k b) (eqb-true n a h) ∙ d
+
 -- the kinds of one class are no kinds of another
 pub other-kind : (n k : ℕ) (C : Class) → classOf n ≡ C → eqb (code C) (code (classOf k)) ≡ false → eqb n k ≡ false
 other-kind n k C p d = ne-eqb n k (λ h. eqb-false (code C) (code (classOf k)) d (ap code (sym p ∙ ap classOf h)))
 
--- those of the board
-pub board-kinds : (k : ℕ) → classOf k ≡ OnBoard → (22 ≤ k) × (k < 30)
-board-kinds k h = go (eqb k 0) (ltb k 13) (ltb k 18) (ltb k 22) refl (ltb k 30) refl (ap code h)
-  where
-    go : (a b c d : Bool) → ltb k 22 ≡ d → (f : Bool) → ltb k 30 ≡ f
-        → code (cond a Step (cond b OnChannel (cond c OnPin (cond d OnVirtual (cond f OnBoard Unknown))))) ≡ 4 → (22 ≤ k) × (k < 30)
-    go true b c d p f q t = absurd (omega arith)
-    go false true c d p f q t = absurd (omega arith)
-    go false false true d p f q t = absurd (omega arith)
-    go false false false true p f q t = absurd (omega arith)
-    go false false false false p true q t = (ltb-false k 22 p, ltb-true k 30 q)
-    go false false false false p false q t = absurd (omega arith)
+-- the kinds of a class
+abbrev pub InClass : ℕ → Class → Type 0
+InClass k Step = k ≡ 0
+InClass k OnChannel = (1 ≤ k) × (k < 13)
+InClass k OnPin = (13 ≤ k) × (k < 18)
+InClass k OnVirtual = (18 ≤ k) × (k < 22)
+InClass k OnBoard = (22 ≤ k) × (k < 30)
+InClass k Unknown = 30 ≤ k
+
+pub kinds-of : (k : ℕ) (C : Class) → classOf k ≡ C → InClass k C
+kinds-of k C h =
+    let P = InClass k in
+    subst P h
+    (tested P (eqb k 0) (eqb-true k 0) (λ z.
+    tested P (ltb k 13) (λ t. (omega (arith, eqb-false k 0 z), ltb-true k 13 t)) (λ a.
+    tested P (ltb k 18) (λ t. (ltb-false k 13 a, ltb-true k 18 t)) (λ a.
+    tested P (ltb k 22) (λ t. (ltb-false k 18 a, ltb-true k 22 t)) (λ a.
+    tested P (ltb k 30) (λ t. (ltb-false k 22 a, ltb-true k 30 t)) (ltb-false k 30))))))

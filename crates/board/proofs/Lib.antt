@@ -3,3 +3,4 @@ pub mod Steps
 pub mod Same
 pub mod Kept
 pub mod Classes
+pub mod Order

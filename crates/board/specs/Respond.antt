@@ -1,7 +1,7 @@
 -- Document 01: every event on a board whose fields are in their ranges. An accepted step is a step; every other event is a call, and kind 0
--- among these a step whose fields did not fit. The refusals 2, 1 and 3 are decided here, in this order; 4, 7, 6 and 5 by the calls.
+-- among these a step whose fields did not fit. The refusals 2, 1, 3 and 12 are decided here, in this order; 4, 7, 6 and 5 by the calls.
 -- Assumes nothing.
-use mathlib.Core.Bool.{cond}
+use mathlib.Core.Bool.{Bool, cond, not, _&&_, _||_}
 use mathlib.Core.List.{List}
 use Prim.Native.Nat.{ℕ}
 use lib.Dec.{eqb, ltb}
@@ -68,25 +68,33 @@ onCore f b =
 
 -- ---- an event that is no accepted step
 
--- 1 where the member is not one of n, 3 where a field does not fit, else 0
-unfoldable pub refusalIn : ℕ → Event → ℕ
-refusalIn n e = cond (ltb (e .member) n) (cond (fits e) 0 3) 1
+-- a safe write: 15 and 16 on a pin, 19 and 20 on a virtual output
+abbrev pub isSafeWrite : ℕ → Bool
+isSafeWrite k = eqb k 15 || eqb k 16 || eqb k 19 || eqb k 20
 
--- what the checks on kind, member and fields find: 2, 1, 3, or 0 for nothing; a step is here because its fields did not fit
-unfoldable pub refusalBy : Class → Event → ℕ
-refusalBy Step e = 3
-refusalBy OnChannel e = refusalIn 6 e
-refusalBy OnPin e = refusalIn 48 e
-refusalBy OnVirtual e = refusalIn 6 e
-refusalBy OnBoard e = refusalIn 1 e
-refusalBy Unknown e = 2
+-- one that SWE, `writes`, does not allow
+abbrev pub isBarred : Bool → ℕ → Bool
+isBarred writes k = isSafeWrite k && not writes
+
+-- 1 where the member is not one of n, 3 where a field does not fit, 12 where SWE bars the call, else 0
+unfoldable pub refusalIn : ℕ → Bool → Event → ℕ
+refusalIn n writes e = cond (not (ltb (e .member) n)) 1 (cond (not (fits e)) 3 (cond (isBarred writes (e .kind)) 12 0))
+
+-- what the checks on kind, member, fields and SWE find: 2, 1, 3, 12, or 0 for nothing; a step is here because its fields did not fit
+unfoldable pub refusalBy : Class → Bool → Event → ℕ
+refusalBy Step writes e = 3
+refusalBy OnChannel writes e = refusalIn 6 writes e
+refusalBy OnPin writes e = refusalIn 48 writes e
+refusalBy OnVirtual writes e = refusalIn 6 writes e
+refusalBy OnBoard writes e = refusalIn 1 writes e
+refusalBy Unknown writes e = 2
 
 -- past the checks, on the part of the board that the class names; a step or an unknown kind does not get there
 unfoldable pub passedBy : Class → Board → Event → Reply Board
 passedBy Step b e = accept b
 passedBy OnChannel b e = onChannel (e .member) (channelCall (b .core .clock .timestamp) e) b
-passedBy OnPin b e = onPins (pinsCall (b .core .safety .writes) e) b
-passedBy OnVirtual b e = onVirtuals (virtualsCall (b .core .safety .writes) e) b
+passedBy OnPin b e = onPins (pinsCall e) b
+passedBy OnVirtual b e = onVirtuals (virtualsCall e) b
 passedBy OnBoard b e = onCore (boardCall e) b
 passedBy Unknown b e = accept b
 
@@ -95,7 +103,7 @@ abbrev pub checked : ℕ → Board → Reply Board → Reply Board
 checked n b r = cond (eqb n 0) r (refuse n b)
 
 unfoldable pub calledBy : Class → Board → Event → Reply Board
-calledBy C b e = checked (refusalBy C e) b (passedBy C b e)
+calledBy C b e = checked (refusalBy C (b .core .safety .writes) e) b (passedBy C b e)
 
 abbrev pub called : Board → Event → Reply Board
 called b e = calledBy (classOf (e .kind)) b e

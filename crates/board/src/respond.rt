@@ -2,7 +2,7 @@
 ghost use mathlib.Core.Path.{_≡_};
 ghost use Prim.Native.Nat.{_<_};
 ghost use Rattle.calls.specs.Reply.{refuse};
-ghost use Rattle.board.specs.Respond.{classOf, refusalIn, refusalBy, passedBy, called, outcome};
+ghost use Rattle.board.specs.Respond.{classOf, isSafeWrite, refusalIn, refusalBy, passedBy, called, outcome};
 use crate::Board;
 use crate::Class;
 use crate::Outcome;
@@ -51,7 +51,7 @@ impl Board {
         ensures { λ r. ⌜ r ≡ outcome (passedBy Class.OnPin self e) ⌝ }
     {
         let pins = self.pins;
-        let r = calls::pins_call(self.core.safety.writes, e, pins);
+        let r = calls::pins_call(e, pins);
         let next = r.pins;
         let answer = r.answer;
         self.pins = next;
@@ -67,7 +67,7 @@ impl Board {
         ensures { λ r. ⌜ r ≡ outcome (passedBy Class.OnVirtual self e) ⌝ }
     {
         let outputs = self.virtuals;
-        let r = calls::virtuals_call(self.core.safety.writes, e, outputs);
+        let r = calls::virtuals_call(e, outputs);
         let next = r.outputs;
         let answer = r.answer;
         self.virtuals = next;
@@ -97,7 +97,7 @@ impl Board {
         ensures { λ r. ⌜ r ≡ outcome (called self e) ⌝ }
     {
         let class = class_of(e.kind);
-        let result = refusal(class, e);
+        let result = refusal(class, self.core.safety.writes, e);
         if result != 0 {
             return self.refuse(result);
         }
@@ -124,30 +124,43 @@ pub fn class_of(kind: u8) -> Class
     }
 }
 
-// 1 where the member is not one of n, 3 where a field does not fit, else 0.
-fn refusal_in(n: u8, e: Event) -> u32
-    ensures { λ r. ⌜ r ≡ refusalIn n e ⌝ }
+// A safe write: 15 and 16 on a pin, 19 and 20 on a virtual output.
+fn is_safe_write(kind: u8) -> bool
+    ensures { λ r. ⌜ r ≡ isSafeWrite kind ⌝ }
 {
-    if e.member < n {
-        if calls::fits(e) {
-            return 0;
-        }
-        return 3;
-    }
-    1
+    (kind == 15) | (kind == 16) | (kind == 19) | (kind == 20)
 }
 
-// What the checks on kind, member and fields find of an event that is no accepted step: 2, 1, 3, or
-// 0 for nothing. A step is here because its fields did not fit.
-pub fn refusal(class: Class, e: Event) -> u32
-    ensures { λ r. ⌜ r ≡ refusalBy class e ⌝ }
+// 1 where the member is not one of n, 3 where a field does not fit, 12 where SWE bars the call,
+// else 0.
+fn refusal_in(n: u8, writes: bool, e: Event) -> u32
+    ensures { λ r. ⌜ r ≡ refusalIn n writes e ⌝ }
+{
+    let fit = calls::fits(e);
+    let barred = is_safe_write(e.kind) & !writes;
+    if e.member >= n {
+        return 1;
+    }
+    if !fit {
+        return 3;
+    }
+    if barred {
+        return 12;
+    }
+    0
+}
+
+// What the checks on kind, member, fields and SWE find of an event that is no accepted step: 2, 1,
+// 3, 12, or 0 for nothing. A step is here because its fields did not fit.
+pub fn refusal(class: Class, writes: bool, e: Event) -> u32
+    ensures { λ r. ⌜ r ≡ refusalBy class writes e ⌝ }
 {
     match class {
         Class::Step => 3,
-        Class::OnChannel => refusal_in(CHANNEL_MEMBERS, e),
-        Class::OnPin => refusal_in(PIN_MEMBERS, e),
-        Class::OnVirtual => refusal_in(VIRTUAL_MEMBERS, e),
-        Class::OnBoard => refusal_in(BOARD_MEMBERS, e),
+        Class::OnChannel => refusal_in(CHANNEL_MEMBERS, writes, e),
+        Class::OnPin => refusal_in(PIN_MEMBERS, writes, e),
+        Class::OnVirtual => refusal_in(VIRTUAL_MEMBERS, writes, e),
+        Class::OnBoard => refusal_in(BOARD_MEMBERS, writes, e),
         Class::Unknown => 2,
     }
 }

@@ -1,4 +1,4 @@
--- Document 01, "One event", calls 13 to 17, each on the pin's own record. The field checks are past.
+-- Document 01, "One event", calls 13 to 17, each on the pin's own record. The checks of fields and of SWE are past.
 -- Assumes nothing.
 use mathlib.Core.Bool.{Bool, cond}
 use Prim.Native.Nat.{ℕ}
@@ -26,18 +26,18 @@ abbrev pub withSafeEnable : Bool → Pin → Pin
 withSafeEnable t p =
     record { source = p .source; own = p .own; safedata = p .safedata; safeenable = t; level = p .level; driven = p .driven }
 
--- 13 source, 14 data, 15 safe data and 16 safe enable (nothing changes with SWE 0), 17 read
-unfoldable pub pinCall : Bool → Event → Pin → Reply Pin
-pinCall writes e p =
+-- 13 source, 14 data, 15 safe data, 16 safe enable, 17 read
+unfoldable pub pinCall : Event → Pin → Reply Pin
+pinCall e p =
     let k : ℕ = e .kind in
     cond (eqb k 13) (accept (withSource (e .v) p))
     (cond (eqb k 14) (accept (withOwn (eqb (e .v) 1) p))
-    (cond (eqb k 15) (accept (cond writes (withSafeData (eqb (e .v) 1) p) p))
-    (cond (eqb k 16) (accept (cond writes (withSafeEnable (eqb (e .v) 1) p) p))
+    (cond (eqb k 15) (accept (withSafeData (eqb (e .v) 1) p))
+    (cond (eqb k 16) (accept (withSafeEnable (eqb (e .v) 1) p))
     (tell (flag (p .level)) p))))
 
 -- on the pin that the event names, put back in its place
-abbrev pub pinsCall : Bool → Event → Pins → Reply Pins
-pinsCall writes e x =
-    let r : Reply Pin = pinCall writes e (pinAt x (e .member)) in
+abbrev pub pinsCall : Event → Pins → Reply Pins
+pinsCall e x =
+    let r : Reply Pin = pinCall e (pinAt x (e .member)) in
     reply (putPin (e .member) (r .state) x) (r .answer)

@@ -1,4 +1,5 @@
--- Document 01, "One event", calls 18 to 21, each on the virtual output's own record. The field checks are past.
+-- Document 01, "One event", calls 18 to 21, each on the virtual output's own record. The checks of fields and of SWE
+-- are past.
 -- Assumes nothing.
 use mathlib.Core.Bool.{Bool, cond}
 use Prim.Native.Nat.{ℕ}
@@ -19,17 +20,17 @@ withSafeData t o = record { own = o .own; safedata = t; safeenable = o .safeenab
 abbrev pub withSafeEnable : Bool → Virtual → Virtual
 withSafeEnable t o = record { own = o .own; safedata = o .safedata; safeenable = t }
 
--- 18 data, 19 safe data and 20 safe enable (nothing changes with SWE 0), 21 data read
-unfoldable pub virtualCall : Bool → Event → Virtual → Reply Virtual
-virtualCall writes e o =
+-- 18 data, 19 safe data, 20 safe enable, 21 data read
+unfoldable pub virtualCall : Event → Virtual → Reply Virtual
+virtualCall e o =
     let k : ℕ = e .kind in
     cond (eqb k 18) (accept (withOwn (eqb (e .v) 1) o))
-    (cond (eqb k 19) (accept (cond writes (withSafeData (eqb (e .v) 1) o) o))
-    (cond (eqb k 20) (accept (cond writes (withSafeEnable (eqb (e .v) 1) o) o))
+    (cond (eqb k 19) (accept (withSafeData (eqb (e .v) 1) o))
+    (cond (eqb k 20) (accept (withSafeEnable (eqb (e .v) 1) o))
     (tell (flag (o .own)) o)))
 
 -- on the output that the event names, put back in its place
-abbrev pub virtualsCall : Bool → Event → Virtuals → Reply Virtuals
-virtualsCall writes e x =
-    let r : Reply Virtual = virtualCall writes e (virtualAt x (e .member)) in
+abbrev pub virtualsCall : Event → Virtuals → Reply Virtuals
+virtualsCall e x =
+    let r : Reply Virtual = virtualCall e (virtualAt x (e .member)) in
     reply (putVirtual (e .member) (r .state) x) (r .answer)

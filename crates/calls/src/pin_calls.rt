@@ -1,6 +1,5 @@
 // Calls 13 to 17, on the pin's own record and on it among all pins.
 ghost use mathlib.Core.Path.{_≡_};
-ghost use mathlib.Core.Bool.{cond};
 ghost use Prim.Native.Nat.{_<_};
 ghost use Rattle.words.specs.Bits.{flag};
 ghost use Rattle.calls.specs.Reply.{pinReply, pinsReply, accept, tell};
@@ -40,27 +39,21 @@ fn data_write(p: Pin, v: bool) -> PinReply
 }
 
 // Call 15.
-fn safe_data_write(p: Pin, writes: bool, v: bool) -> PinReply
-    ensures { λ r. ⌜ r ≡ pinReply (accept (cond writes (withSafeData v p) p)) ⌝ }
+fn safe_data_write(p: Pin, v: bool) -> PinReply
+    ensures { λ r. ⌜ r ≡ pinReply (accept (withSafeData v p)) ⌝ }
 {
-    if writes {
-        let mut n = p;
-        n.safedata = v;
-        return accept(n);
-    }
-    accept(p)
+    let mut n = p;
+    n.safedata = v;
+    accept(n)
 }
 
 // Call 16.
-fn safe_enable_write(p: Pin, writes: bool, v: bool) -> PinReply
-    ensures { λ r. ⌜ r ≡ pinReply (accept (cond writes (withSafeEnable v p) p)) ⌝ }
+fn safe_enable_write(p: Pin, v: bool) -> PinReply
+    ensures { λ r. ⌜ r ≡ pinReply (accept (withSafeEnable v p)) ⌝ }
 {
-    if writes {
-        let mut n = p;
-        n.safeenable = v;
-        return accept(n);
-    }
-    accept(p)
+    let mut n = p;
+    n.safeenable = v;
+    accept(n)
 }
 
 // Call 17.
@@ -73,27 +66,27 @@ fn level_read(p: Pin) -> PinReply
     }
 }
 
-// The call of an event on its pin; `writes` is SWE.
-fn pin_call(writes: bool, e: Event, p: Pin) -> PinReply
-    ensures { λ r. ⌜ r ≡ pinReply (pinCall writes e p) ⌝ }
+// The call of an event on its pin.
+fn pin_call(e: Event, p: Pin) -> PinReply
+    ensures { λ r. ⌜ r ≡ pinReply (pinCall e p) ⌝ }
 {
     let kind = e.kind;
     match kind {
         13 => source_write(p, e.v),
         14 => data_write(p, e.v == 1),
-        15 => safe_data_write(p, writes, e.v == 1),
-        16 => safe_enable_write(p, writes, e.v == 1),
+        15 => safe_data_write(p, e.v == 1),
+        16 => safe_enable_write(p, e.v == 1),
         _ => level_read(p),
     }
 }
 
 // The call of an event on the pin that it names, put back among all pins.
-pub fn pins_call(writes: bool, e: Event, pins: Pins) -> PinsReply
+pub fn pins_call(e: Event, pins: Pins) -> PinsReply
     requires { ⌜ e .member < 48 ⌝ }
-    ensures { λ r. ⌜ r ≡ pinsReply (pinsCall writes e pins) ⌝ }
+    ensures { λ r. ⌜ r ≡ pinsReply (pinsCall e pins) ⌝ }
 {
     let m = e.member as u64;
-    let r = pin_call(writes, e, pins.at(m));
+    let r = pin_call(e, pins.at(m));
     let pin = r.pin;
     let answer = r.answer;
     PinsReply {

@@ -1,6 +1,5 @@
 // Calls 18 to 21, on the virtual output's own record and on it among all outputs.
 ghost use mathlib.Core.Path.{_≡_};
-ghost use mathlib.Core.Bool.{cond};
 ghost use Prim.Native.Nat.{_<_};
 ghost use Rattle.words.specs.Bits.{flag};
 ghost use Rattle.calls.specs.Reply.{virtualReply, virtualsReply, accept, tell};
@@ -31,27 +30,21 @@ fn data_write(o: Virtual, v: bool) -> VirtualReply
 }
 
 // Call 19.
-fn safe_data_write(o: Virtual, writes: bool, v: bool) -> VirtualReply
-    ensures { λ r. ⌜ r ≡ virtualReply (accept (cond writes (withSafeData v o) o)) ⌝ }
+fn safe_data_write(o: Virtual, v: bool) -> VirtualReply
+    ensures { λ r. ⌜ r ≡ virtualReply (accept (withSafeData v o)) ⌝ }
 {
-    if writes {
-        let mut n = o;
-        n.safedata = v;
-        return accept(n);
-    }
-    accept(o)
+    let mut n = o;
+    n.safedata = v;
+    accept(n)
 }
 
 // Call 20.
-fn safe_enable_write(o: Virtual, writes: bool, v: bool) -> VirtualReply
-    ensures { λ r. ⌜ r ≡ virtualReply (accept (cond writes (withSafeEnable v o) o)) ⌝ }
+fn safe_enable_write(o: Virtual, v: bool) -> VirtualReply
+    ensures { λ r. ⌜ r ≡ virtualReply (accept (withSafeEnable v o)) ⌝ }
 {
-    if writes {
-        let mut n = o;
-        n.safeenable = v;
-        return accept(n);
-    }
-    accept(o)
+    let mut n = o;
+    n.safeenable = v;
+    accept(n)
 }
 
 // Call 21.
@@ -64,26 +57,26 @@ fn data_read(o: Virtual) -> VirtualReply
     }
 }
 
-// The call of an event on its virtual output; `writes` is SWE.
-fn virtual_call(writes: bool, e: Event, o: Virtual) -> VirtualReply
-    ensures { λ r. ⌜ r ≡ virtualReply (virtualCall writes e o) ⌝ }
+// The call of an event on its virtual output.
+fn virtual_call(e: Event, o: Virtual) -> VirtualReply
+    ensures { λ r. ⌜ r ≡ virtualReply (virtualCall e o) ⌝ }
 {
     let kind = e.kind;
     match kind {
         18 => data_write(o, e.v == 1),
-        19 => safe_data_write(o, writes, e.v == 1),
-        20 => safe_enable_write(o, writes, e.v == 1),
+        19 => safe_data_write(o, e.v == 1),
+        20 => safe_enable_write(o, e.v == 1),
         _ => data_read(o),
     }
 }
 
 // The call of an event on the output that it names, put back among all outputs.
-pub fn virtuals_call(writes: bool, e: Event, outputs: Virtuals) -> VirtualsReply
+pub fn virtuals_call(e: Event, outputs: Virtuals) -> VirtualsReply
     requires { ⌜ e .member < 6 ⌝ }
-    ensures { λ r. ⌜ r ≡ virtualsReply (virtualsCall writes e outputs) ⌝ }
+    ensures { λ r. ⌜ r ≡ virtualsReply (virtualsCall e outputs) ⌝ }
 {
     let m = e.member as u64;
-    let r = virtual_call(writes, e, outputs.at(m));
+    let r = virtual_call(e, outputs.at(m));
     let output = r.output;
     let answer = r.answer;
     VirtualsReply {

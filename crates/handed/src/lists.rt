@@ -44,6 +44,10 @@ pub fn show_lists(board: Board) {
         run_two(board, event(200, 0, 0), event(10, 6, 0)),
     );
     show(
+        b"list, safe writes with SWE 0",
+        run_two(board, event(16, 47, 0), event(19, 0, 1)),
+    );
+    show(
         b"list, snapshot read twice, captures lost",
         run_two(board, event(11, 0, 0), event(11, 0, 0)),
     );

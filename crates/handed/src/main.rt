@@ -91,6 +91,17 @@ fn broken() -> Board {
     }
 }
 
+// The same with SWE 1.
+fn broken_with_swe() -> Board {
+    let mut b = broken();
+    let mut core = b.core;
+    let mut safety = core.safety;
+    safety.writes = true;
+    core.safety = safety;
+    b.core = core;
+    b
+}
+
 // A reset board with another channel 0 and another part of its own.
 pub fn board_with(c: Channel, core: Core) -> Board {
     let mut b = board::reset();
@@ -157,6 +168,14 @@ fn show_refused() {
         board::apply(broken(), event(10, 0, 1)),
     );
     show(
+        b"safe write of a pin with SWE 0",
+        board::apply(broken(), event(15, 0, 1)),
+    );
+    show(
+        b"safe write of a virtual output with SWE 0",
+        board::apply(broken(), event(20, 5, 0)),
+    );
+    show(
         b"snapshot read, captures lost",
         board::apply(broken(), event(11, 0, 0)),
     );
@@ -171,8 +190,12 @@ fn show_accepted() {
     show(b"count read", board::apply(broken(), event(10, 1, 0)));
     show(b"mode write", board::apply(broken(), event(1, 0, 48)));
     show(
-        b"safe write with SWE 0",
-        board::apply(broken(), event(15, 0, 1)),
+        b"safe write of a pin with SWE 1",
+        board::apply(broken_with_swe(), event(15, 0, 1)),
+    );
+    show(
+        b"safe write of a virtual output with SWE 1",
+        board::apply(broken_with_swe(), event(20, 5, 0)),
     );
     show(b"status", board::apply(broken(), event(29, 0, 0)));
     show(b"step", board::apply(broken(), event(0, 0, 0)));

@@ -1,7 +1,7 @@
 -- One event on two boards that look alike to the members: one that stays in the remainder is answered alike and leaves them alike; one that is
 -- struck out leaves the first board as it looked.
 -- Assumes nothing.
-use mathlib.Core.Path.{_≡_, refl, ap, sym, _∙_, subst⁻¹}
+use mathlib.Core.Path.{_≡_, refl, ap, sym, _∙_, subst, subst⁻¹}
 use mathlib.Core.Bool.{Bool, true, false, _&&_, _||_, and-eq-true-iff, true≢false, false≢true}
 use Prim.Native.Nat.{ℕ, _<_, _/_, _^_}
 use lib.Dec.{eqb, ltb}
@@ -24,6 +24,7 @@ use Rattle.calls.specs.declared.Event.{Event}
 use Rattle.calls.specs.declared.Answer.{Answer}
 use Rattle.board.specs.Inputs.{channelIn}
 use Rattle.board.proofs.Checks.{named}
+use Rattle.board.proofs.Classes.{other}
 use Rattle.board.proofs.Steps.{of-step, of-call, of-refused-step}
 use Rattle.board.specs.Respond.{classOf, refusalIn, refusalBy, checked, passedBy, calledBy, respond}
 use Rattle.board.specs.declared.Class.{Class}
@@ -42,7 +43,6 @@ use Rattle.isolation.proofs.Seen.{Seen}
 use Rattle.isolation.proofs.Told.{Told, settings-told}
 use Rattle.isolation.proofs.Local.{kept-agree, step-same}
 use Rattle.isolation.proofs.Tells.{class-of-step, step-quiet}
-use Rattle.isolation.proofs.Sets.{other}
 
 module _ (M : Members) (b h : Board) (seen : Seen M b h) (left : InRange b) (right : InRange h) (e : Event) where
   refused-alike : (n : ℕ) → Follows (Seen M) (refuse n b) (refuse n h)
@@ -50,10 +50,12 @@ module _ (M : Members) (b h : Board) (seen : Seen M b h) (left : InRange b) (rig
 
   -- ---- a call that stays in the remainder
 
-  within : (n : ℕ) (r q : Reply Board) → (e .member < n → Follows (Seen M) r q) → Follows (Seen M) (checked (refusalIn n e) b r) (checked (refusalIn n e) h q)
-  unfolding refusalIn
+  -- SWE is the board's, and so the same on both
+  within : (n : ℕ) (r q : Reply Board) → (e .member < n → Follows (Seen M) r q)
+      → Follows (Seen M) (checked (refusalIn n (b .core .safety .writes) e) b r) (checked (refusalIn n (h .core .safety .writes) e) h q)
   within n r q s =
-      paired (Follows (Seen M)) (eqb (refusalIn n e) 0) (λ k. s (named n e (eqb-true _ _ k))) (λ _. refused-alike _)
+      subst (λ (k : Core). Follows (Seen M) (checked (refusalIn n (b .core .safety .writes) e) b r) (checked (refusalIn n (k .safety .writes) e) h q)) (seen .core)
+      (paired (Follows (Seen M)) (eqb (refusalIn n (b .core .safety .writes) e) 0) (λ k. s (named n _ e (eqb-true _ _ k))) (λ _. refused-alike _))
 
   call-kept : (C : Class) → onOutsider M C (e .member) ≡ false → Follows (Seen M) (calledBy C b e) (calledBy C h e)
   unfolding calledBy refusalBy passedBy onOutsider
@@ -73,8 +75,7 @@ module _ (M : Members) (b h : Board) (seen : Seen M b h) (left : InRange b) (rig
         };
       })
   call-kept OnPin o = within 48 _ _ (λ k.
-      let same : pinCall (b .core .safety .writes) e (pinAt (b .pins) (e .member)) ≡ pinCall (h .core .safety .writes) e (pinAt (h .pins) (e .member)) =
-      λ i. pinCall (seen .core i .safety .writes) e (seen .pins (e .member) k (not-false _ o) i) in
+      let same : pinCall e (pinAt (b .pins) (e .member)) ≡ pinCall e (pinAt (h .pins) (e .member)) = ap (pinCall e) (seen .pins (e .member) k (not-false _ o)) in
       record {
         answer = ap (λ (r : Reply Pin). r .answer) same;
         state = record {
@@ -87,8 +88,8 @@ module _ (M : Members) (b h : Board) (seen : Seen M b h) (left : InRange b) (rig
         };
       })
   call-kept OnVirtual o = within 6 _ _ (λ k.
-      let same : virtualCall (b .core .safety .writes) e (virtualAt (b .virtuals) (e .member)) ≡ virtualCall (h .core .safety .writes) e (virtualAt (h .virtuals) (e .member)) =
-      λ i. virtualCall (seen .core i .safety .writes) e (seen .virtuals (e .member) k (not-false _ o) i) in
+      let same : virtualCall e (virtualAt (b .virtuals) (e .member)) ≡ virtualCall e (virtualAt (h .virtuals) (e .member)) =
+      ap (virtualCall e) (seen .virtuals (e .member) k (not-false _ o)) in
       record {
         answer = ap (λ (r : Reply Virtual). r .answer) same;
         state = record {
@@ -165,8 +166,8 @@ misaddressed n h = go (eqb n 1) refl
     go false z = let two : eqb n 2 ≡ true = rw z at h in (other n 2 0 two refl, other n 2 6 two refl)
 
 module _ (M : Members) (b h : Board) (seen : Seen M b h) (left : InRange b) (e : Event) where
-  passed : (n : ℕ) (r : Reply Board) → Unseen M h r → Unseen M h (checked (refusalIn n e) b r)
-  passed n r s = past-checks (Unseen M h) n e b r (record { state = seen }) (record { state = seen }) (λ _ _. s)
+  passed : (n : ℕ) (r : Reply Board) → Unseen M h r → Unseen M h (checked (refusalIn n (b .core .safety .writes) e) b r)
+  passed n r s = past-checks (Unseen M h) n _ e b r (λ _ _ _. record { state = seen }) (λ _ _. s)
 
   -- a call on an outsider
   call-gone : (C : Class) → onOutsider M C (e .member) ≡ true → Unseen M h (calledBy C b e)

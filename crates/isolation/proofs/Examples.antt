@@ -8,7 +8,7 @@ use lib.ListN.{getD}
 use Rattle.calls.specs.Reply.{Reply, number}
 use Rattle.calls.specs.declared.Event.{Event}
 use Rattle.calls.specs.declared.Answer.{Answer}
-use Rattle.words.specs.Bits.{bit, word, some}
+use Rattle.words.specs.Bits.{bit, word, some, every}
 use Rattle.words.specs.Table.{tab}
 use Rattle.counter.specs.Advance.{edgeReasons, look, counted as countedOn, masked, asked, loaded, nextOf, settled, step, advance}
 use Rattle.counter.specs.Difference.{clocked, errs}
@@ -29,10 +29,10 @@ use Rattle.calls.specs.VirtualCalls.{virtualCall}
 use Rattle.board.specs.Handed.{resetBoard, repairedBoard, lostCleared, kept, applied}
 use Rattle.board.specs.Inputs.{extouts, indexOf, samplesOf, inputsOf, channelNext, allNext}
 use Rattle.board.specs.Respond.{refusalIn, refusalBy, passedBy, calledBy, respondWith, respond}
-use Rattle.board.specs.Runs.{finish}
+use Rattle.board.specs.Runs.{finish, remainder}
 use Rattle.board.specs.Step.{sceneOf, coreNext, stepWith, stepped}
 use Rattle.board.specs.declared.Board.{Board}
-use Rattle.isolation.specs.Lists.{remainder, keptAnswers}
+use Rattle.isolation.specs.Lists.{keptAnswers}
 use Rattle.isolation.specs.Members.{Members}
 use Rattle.isolation.specs.Settings.{untold, latest, told}
 use Rattle.isolation.specs.Remainder.{onOutsider, struck, cleared, shown}
@@ -43,7 +43,7 @@ use Rattle.isolation.specs.Apart.{Computed, ending, Refuting, quorum, sp
 use Rattle.isolation.proofs.Tests.{decided}
 
 pub computed : Computed
-unfolding bit word some tab edgeReasons look countedOn masked asked loaded nextOf settled step advance clocked errs preloaded started captured popped resetChannel pinAt putPin pinLevel sensed driven resetPins virtualAt putVirtual virtualLevels resetVirtuals routed advanced ticks guarded restsAfter expiredAfter watchedIn watched kicked withInterval switched resetCore intervalWrite boardCall modeWrite registerWrite routeWrite snapshotRead channelCall stepFits limits limit selectors fits pinCall virtualCall resetBoard extouts indexOf samplesOf inputsOf channelNext allNext refusalIn refusalBy passedBy calledBy respondWith respond finish sceneOf coreNext stepWith stepped inReasons repaired repairedWords repairedSources repairedPins repairedVirtuals repairedClock repairedSafety repairedWatchdog repairedCore repairedBoard lostCleared kept applied remainder keptAnswers untold latest told onOutsider struck cleared shown clauses all without afterEach among group setup neighbours trial shared sole given quorum spilling
+unfolding bit word some every tab edgeReasons look countedOn masked asked loaded nextOf settled step advance clocked errs preloaded started captured popped resetChannel pinAt putPin pinLevel sensed driven resetPins virtualAt putVirtual virtualLevels resetVirtuals routed advanced ticks guarded restsAfter expiredAfter watchedIn watched kicked withInterval switched resetCore intervalWrite boardCall modeWrite registerWrite routeWrite snapshotRead channelCall stepFits limits limit selectors fits pinCall virtualCall resetBoard extouts indexOf samplesOf inputsOf channelNext allNext refusalIn refusalBy passedBy calledBy respondWith respond finish sceneOf coreNext stepWith stepped inReasons repaired repairedWords repairedSources repairedPins repairedVirtuals repairedClock repairedSafety repairedWatchdog repairedCore repairedBoard lostCleared kept applied remainder keptAnswers untold latest told onOutsider struck cleared shown clauses all without afterEach among group setup neighbours trial shared sole given quorum spilling
 computed = record {
   alike = record {
     longer = refl;
@@ -66,6 +66,7 @@ computed = record {
   wording = record {
     boardCalls = (refl, refl);
     refusals = (refl, refl);
+    safeWrites = (refl, refl);
     halted = refl;
     once = refl;
     itself = refl;

@@ -1,11 +1,10 @@
 -- What the calls and the step do to the settings: only call 1 sets a mode, 4 a route, 13 a source and 22 the control, to V, where they are answered 0.
--- This is the one file that goes through the kinds.
+-- This is the one file here that goes through the kinds.
 -- Assumes nothing.
-use mathlib.Core.Path.{_≡_, refl, ap, _∙_}
+use mathlib.Core.Path.{_≡_, refl}
 use mathlib.Core.Bool.{Bool, true, false, cond, _&&_}
 use Prim.Native.Nat.{ℕ}
 use lib.Dec.{eqb, ltb}
-use borrow.Author.Tests.{eqb-true}
 use Rattle.words.proofs.Cases.{tested, either}
 use Rattle.counter.specs.Setters.{withMode, withRoute}
 use Rattle.counter.specs.declared.Channel.{Channel}
@@ -18,10 +17,7 @@ use Rattle.calls.specs.PinCalls.{pinCall}
 use Rattle.calls.specs.BoardCalls.{intervalWrite, boardCall}
 use Rattle.calls.specs.declared.Event.{Event}
 use Rattle.calls.specs.declared.Answer.{Answer}
-
--- a kind is not two numbers
-pub other : (k a b : ℕ) → eqb k a ≡ true → eqb a b ≡ false → eqb k b ≡ false
-other k a b h d = ap (λ n. eqb n b) (eqb-true k a h) ∙ d
+use Rattle.board.proofs.Classes.{other}
 
 -- a setting after a call: V if it is the call that sets it and it is accepted, else what it was
 abbrev pub setBy : Bool → Answer → ℕ → ℕ → ℕ
@@ -95,15 +91,15 @@ module _ (c : Channel) where
 
 -- ---- pins and the board's own part
 
-pub pin-set : (q : Pin) (writes : Bool) (e : Event) → Sets (λ x. x .source) (eqb (e .kind) 13) (e .v) q (pinCall writes e q)
+pub pin-set : (q : Pin) (e : Event) → Sets (λ x. x .source) (eqb (e .kind) 13) (e .v) q (pinCall e q)
 unfolding pinCall
-pin-set q writes e =
+pin-set q e =
     let k = e .kind in
     let S = Sets (λ (x : Pin). x .source) (eqb k 13) (e .v) q in
     tested S (eqb k 13) (λ h. record { after = rw h refl }) (λ h.
     either S (eqb k 14) (keeping h refl)
-    (either S (eqb k 15) (keeping h (either (λ (x : Pin). x .source ≡ q .source) writes refl refl))
-    (either S (eqb k 16) (keeping h (either (λ (x : Pin). x .source ≡ q .source) writes refl refl))
+    (either S (eqb k 15) (keeping h refl)
+    (either S (eqb k 16) (keeping h refl)
     (keeping h refl))))
 
 pub core-set : (k : Core) (e : Event) → Sets (λ x. x .safety .control) (eqb (e .kind) 22) (e .v) k (boardCall e k)

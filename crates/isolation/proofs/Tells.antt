@@ -102,8 +102,9 @@ module _ (t : Settings) (b : Board) (e : Event) (m : Told t b) (range : InRange 
       silent : (k : ℕ) → Silent e (record { result = n; value = 0; timestamp = 0; reason = 0 }) k
       silent k i old = not-accepted k i e _ old h
 
-  within : (n : ℕ) (r : Reply Board) → (e .member < n → fits e ≡ true → Telling t e r) → Telling t e (checked (refusalIn n e) b r)
-  within n r = past-checks (Telling t e) n e b r (refused 3 refl) (refused 1 refl)
+  within : (n : ℕ) (r : Reply Board) → (e .member < n → fits e ≡ true → Telling t e r)
+      → Telling t e (checked (refusalIn n (b .core .safety .writes) e) b r)
+  within n r = past-checks (Telling t e) n _ e b r (λ m z _. refused m z)
 
   by-class : (C : Class) → classOf (e .kind) ≡ C → Telling t e (calledBy C b e)
   unfolding calledBy refusalBy passedBy told
@@ -122,15 +123,15 @@ module _ (t : Settings) (b : Board) (e : Event) (m : Told t b) (range : InRange 
       })
   by-class OnPin p = within 48 _ (λ k f.
       let x : Pin = pinAt (b .pins) (e .member) in
-      let q : Reply Pin = pinCall (b .core .safety .writes) e x in
-      let s : Sets (λ (z : Pin). z .source) (eqb (e .kind) 13) (e .v) x q = pin-set x _ e in
+      let q : Reply Pin = pinCall e x in
+      let s : Sets (λ (z : Pin). z .source) (eqb (e .kind) 13) (e .v) x q = pin-set x e in
       record {
         after = record {
           mode = λ c h. m .mode c h ∙ sym (of-class e _ OnPin p 1 refl c (t .mode c));
           route = λ c h. m .route c h ∙ sym (of-class e _ OnPin p 4 refl c (t .route c));
           source =
               put-told 48 pinAt (b .pins) (pins-placed (b .pins)) (λ x. x .source) 13 e q (t .source) k
-              (source-held (q .state) (ltb-true _ 7 (pin-sound x (pin-ranged (b .pins) (range .pins) (e .member) k) _ e f .ranged .source)) ∙ s .after) (m .source);
+              (source-held (q .state) (ltb-true _ 7 (pin-sound x (pin-ranged (b .pins) (range .pins) (e .member) k) e f .ranged .source)) ∙ s .after) (m .source);
           control = m .control ∙ sym (of-class e _ OnPin p 22 refl 0 (t .control));
         };
       })

@@ -1,26 +1,26 @@
 -- Settings whose six tests hold are closed, and so is a list after each of whose events they hold.
 -- Assumes nothing.
-use mathlib.Core.Path.{_≡_, refl, sym, _∙_}
+use mathlib.Core.Path.{_≡_, refl}
 use mathlib.Core.Bool.{Bool, true, false, _&&_, and-eq-true-iff}
 use mathlib.Core.List.{List, [], _∷_}
-use Prim.Native.Nat.{ℕ, zero, suc, _<_, zero-le, suc-le-suc}
+use Prim.Native.Nat.{ℕ, zero, suc}
 use native.Mathlib.Omega.{arith}
 use lib.Dec.{eqb, ltb}
 use lib.ListN.{getD}
 use borrow.Author.Tests.{eq-eqb, eqb-true, lt-ltb, ltb-true}
-use Rattle.words.specs.Table.{tab}
+use Rattle.words.specs.Bits.{every}
 use Rattle.counter.specs.Mode.{XS, K}
 use Rattle.control.specs.Safety.{pinTriggers}
 use Rattle.calls.specs.Reply.{Reply}
 use Rattle.calls.specs.declared.Answer.{Answer}
 use Rattle.board.specs.Handed.{resetBoard}
 use Rattle.reach.proofs.Cases.{asked}
-use Rattle.words.proofs.Tables.{getD-tab}
+use Rattle.words.proofs.Every.{every-at, every-by}
 use Rattle.isolation.specs.Lists.{AfterEach}
 use Rattle.isolation.specs.Members.{Members}
 use Rattle.isolation.specs.Settings.{Settings, untold, told}
 use Rattle.isolation.specs.Closed.{Closed}
-use Rattle.isolation.specs.Tests.{every, implies, carryingAt, indexingAt, routedPinAt, routedVirtualAt, drivingAt, clauses, all, afterEach, Decided}
+use Rattle.isolation.specs.Tests.{implies, carryingAt, indexingAt, routedPinAt, routedVirtualAt, drivingAt, clauses, all, afterEach, Decided}
 
 -- one of all
 each : (ts : List Bool) → all ts ≡ true → (k : ℕ) → getD ts k true ≡ true
@@ -28,14 +28,6 @@ unfolding all
 each [] h k = refl
 each (t ∷ ts) h zero = and-eq-true-iff t (all ts) .0 h .0
 each (t ∷ ts) h (suc k) = each ts (and-eq-true-iff t (all ts) .0 h .1) k
-
-at : (n : ℕ) (f : ℕ → Bool) → every n f ≡ true → (i : ℕ) → i < n → f i ≡ true
-at n f h i k = sym (getD-tab n f i true k) ∙ each (tab n f) h i
-
-all-of : (n : ℕ) (f : ℕ → Bool) → ((i : ℕ) → i < n → f i ≡ true) → every n f ≡ true
-unfolding tab all
-all-of zero f h = refl
-all-of (suc n) f h = and-eq-true-iff (f zero) _ .1 (h zero (suc-le-suc zero-le), all-of n (λ j. f (suc j)) (λ i k. h (suc i) (suc-le-suc k)))
 
 implying : (s t : Bool) → (s ≡ true → t ≡ true) → implies s t ≡ true
 implying true t h = h refl
@@ -47,18 +39,18 @@ unfolding clauses
 closed-by-tests M s h =
     let of : (k : ℕ) → getD (clauses M s) k true ≡ true = each (clauses M s) h in
     record {
-      carrying = λ c k m e. asked (M .isChannel c && eqb (K (s .mode c)) 4) _ (at 6 (carryingAt M s) (of 0) c k) (rw m (eq-eqb _ 4 e));
+      carrying = λ c k m e. asked (M .isChannel c && eqb (K (s .mode c)) 4) _ (every-at 6 (carryingAt M s) (of 0) c k) (rw m (eq-eqb _ 4 e));
       indexing = λ c k m l u.
           let x : ℕ = XS (s .mode c) in
-          asked (M .isChannel c && ltb 1 x && ltb x 8) _ (at 6 (indexingAt M s) (of 1) c k) (rw (m, lt-ltb 1 x l, lt-ltb x 8 (omega arith)) refl);
+          asked (M .isChannel c && ltb 1 x && ltb x 8) _ (every-at 6 (indexingAt M s) (of 1) c k) (rw (m, lt-ltb 1 x l, lt-ltb x 8 (omega arith)) refl);
       routedPin = λ c k m u.
-          asked (M .isChannel c && ltb (s .route c) 48) _ (at 6 (routedPinAt M s) (of 2) c k) (rw m (lt-ltb (s .route c) 48 (omega arith)));
+          asked (M .isChannel c && ltb (s .route c) 48) _ (every-at 6 (routedPinAt M s) (of 2) c k) (rw m (lt-ltb (s .route c) 48 (omega arith)));
       routedVirtual = λ c k m l u.
           let r : ℕ = s .route c in
-          asked (M .isChannel c && ltb 47 r && ltb r 54) _ (at 6 (routedVirtualAt M s) (of 3) c k) (rw (m, lt-ltb 47 r l, lt-ltb r 54 (omega arith)) refl);
+          asked (M .isChannel c && ltb 47 r && ltb r 54) _ (every-at 6 (routedVirtualAt M s) (of 3) c k) (rw (m, lt-ltb 47 r l, lt-ltb r 54 (omega arith)) refl);
       driving = λ p k m l u.
           let n : ℕ = s .source p in
-          asked (M .isPin p && ltb 0 n && ltb n 7) _ (at 48 (drivingAt M s) (of 4) p k) (rw (m, lt-ltb 0 n l, lt-ltb n 7 (omega arith)) refl);
+          asked (M .isPin p && ltb 0 n && ltb n 7) _ (every-at 48 (drivingAt M s) (of 4) p k) (rw (m, lt-ltb 0 n l, lt-ltb n 7 (omega arith)) refl);
       triggering = asked (pinTriggers (s .control)) (M .isPin 47) (of 5);
     }
 
@@ -68,17 +60,17 @@ tests-of-closed M s q =
     let two : (a b : Bool) → (a && b) ≡ true → (a ≡ true) × (b ≡ true) = λ a b. and-eq-true-iff a b .0 in
     let three : (a b c : Bool) → (a && b && c) ≡ true → (a ≡ true) × (b ≡ true) × (c ≡ true) =
     λ a b c h. (two a b (two (a && b) c h .0) .0, two a b (two (a && b) c h .0) .1, two (a && b) c h .1) in
-    let carrying : every 6 (carryingAt M s) ≡ true = all-of 6 _ (λ c k. implying _ _ (λ u.
+    let carrying : every 6 (carryingAt M s) ≡ true = every-by 6 _ (λ c k. implying _ _ (λ u.
     let h = two (M .isChannel c) (eqb (K (s .mode c)) 4) u in q .carrying c k (h .0) (eqb-true _ 4 (h .1)))) in
-    let indexing : every 6 (indexingAt M s) ≡ true = all-of 6 _ (λ c k. implying _ _ (λ u.
+    let indexing : every 6 (indexingAt M s) ≡ true = every-by 6 _ (λ c k. implying _ _ (λ u.
     let x : ℕ = XS (s .mode c) in
     let h = three (M .isChannel c) (ltb 1 x) (ltb x 8) u in q .indexing c k (h .0) (ltb-true 1 x (h .1)) (omega (arith, ltb-true x 8 (h .2))))) in
-    let pins : every 6 (routedPinAt M s) ≡ true = all-of 6 _ (λ c k. implying _ _ (λ u.
+    let pins : every 6 (routedPinAt M s) ≡ true = every-by 6 _ (λ c k. implying _ _ (λ u.
     let h = two (M .isChannel c) (ltb (s .route c) 48) u in q .routedPin c k (h .0) (omega (arith, ltb-true (s .route c) 48 (h .1))))) in
-    let virtuals : every 6 (routedVirtualAt M s) ≡ true = all-of 6 _ (λ c k. implying _ _ (λ u.
+    let virtuals : every 6 (routedVirtualAt M s) ≡ true = every-by 6 _ (λ c k. implying _ _ (λ u.
     let r : ℕ = s .route c in
     let h = three (M .isChannel c) (ltb 47 r) (ltb r 54) u in q .routedVirtual c k (h .0) (ltb-true 47 r (h .1)) (omega (arith, ltb-true r 54 (h .2))))) in
-    let driving : every 48 (drivingAt M s) ≡ true = all-of 48 _ (λ p k. implying _ _ (λ u.
+    let driving : every 48 (drivingAt M s) ≡ true = every-by 48 _ (λ p k. implying _ _ (λ u.
     let n : ℕ = s .source p in
     let h = three (M .isPin p) (ltb 0 n) (ltb n 7) u in q .driving p k (h .0) (ltb-true 0 n (h .1)) (omega (arith, ltb-true n 7 (h .2))))) in
     let trigger : implies (pinTriggers (s .control)) (M .isPin 47) ≡ true = implying _ _ (q .triggering) in

@@ -6,8 +6,8 @@ use mathlib.Core.Bool.{Bool, true, false}
 use mathlib.Core.List.{List, [], _∷_}
 use Rattle.calls.specs.Reply.{Reply}
 use Rattle.calls.specs.declared.Answer.{Answer}
-use Rattle.board.specs.Runs.{finish, replies}
-use Rattle.isolation.specs.Lists.{remainder, allAnswers, keptAnswers, AfterEach}
+use Rattle.board.specs.Runs.{finish, replies, remainder}
+use Rattle.isolation.specs.Lists.{allAnswers, keptAnswers, AfterEach}
 
 -- equal answers, and states that look alike
 pub record Follows {S : Type 0} (Seen : S → S → Type 0) (r q : Reply S) : Type 0 where

@@ -7,6 +7,7 @@ use mathlib.Core.List.{List, [], _∷_, _++_}
 use Prim.Native.Nat.{ℕ, _+_, _%_, _^_}
 use lib.Dec.{eqb, ltb}
 use lib.ListN.{set, replicate}
+use Rattle.words.specs.Bits.{every}
 use Rattle.counter.specs.Setters.{withLoad}
 use Rattle.counter.specs.declared.Channel.{Channel}
 use Rattle.calls.specs.Reply.{Reply, reply, number}
@@ -19,7 +20,7 @@ use Rattle.board.specs.Handed.{applied}
 use Rattle.board.specs.declared.Board.{Board}
 use Rattle.isolation.specs.Members.{Members}
 use Rattle.isolation.specs.Claim.{Alike, answersOf, Isolation}
-use Rattle.isolation.specs.Tests.{every, isClosedThroughout, isClosedBut}
+use Rattle.isolation.specs.Tests.{isClosedThroughout, isClosedBut}
 use Rattle.isolation.specs.Examples.{members, group, shared, sole, given, Example, Wording}
 
 -- ---- lists that are told apart

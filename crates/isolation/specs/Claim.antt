@@ -6,9 +6,9 @@ use Rattle.calls.specs.Reply.{Reply}
 use Rattle.calls.specs.declared.Event.{Event}
 use Rattle.calls.specs.declared.Answer.{Answer}
 use Rattle.board.specs.Handed.{resetBoard, applied}
-use Rattle.board.specs.Runs.{finish}
+use Rattle.board.specs.Runs.{finish, remainder}
 use Rattle.board.specs.declared.Board.{Board}
-use Rattle.isolation.specs.Lists.{remainder, allAnswers, keptAnswers, AfterEach}
+use Rattle.isolation.specs.Lists.{allAnswers, keptAnswers, AfterEach}
 use Rattle.isolation.specs.Members.{Members}
 use Rattle.isolation.specs.Settings.{untold, told}
 use Rattle.isolation.specs.Closed.{Closed}

@@ -91,6 +91,9 @@ pub record Wording : Type 0 where
   -- a refused call on an outsider is left out, one on a member stays
   pub refusals : Alike applied (members (0 ∷ []) [] []) (call 11 1 0 ∷ call 11 0 0 ∷ []) (call 11 0 0 ∷ [])
       × (length (remainderOf applied (members (0 ∷ []) [] []) (call 11 0 0 ∷ call 11 0 0 ∷ [])) ≡ 2)
+  -- so is a safe write that is answered 12 (request 5)
+  pub safeWrites : Alike applied (members [] (0 ∷ []) []) (call 15 1 1 ∷ call 15 0 1 ∷ []) (call 15 0 1 ∷ [])
+      × (answersOf applied (members [] (0 ∷ []) []) (call 15 1 1 ∷ call 15 0 1 ∷ []) ≡ number 12 0 ∷ [])
   -- the settings of a halted channel bind
   pub halted : isClosedThroughout applied (members (1 ∷ []) [] []) (call 1 1 0x40 ∷ []) ≡ false
   -- members that were unclosed once are not closed throughout

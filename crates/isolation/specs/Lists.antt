@@ -1,5 +1,4 @@
--- What is left of a list of events on any machine when some events are struck out by their answers, the answers that the others got, and
--- what holds after every event of a list.
+-- The answers that the events of a remainder got in the whole list, and what holds after every event of a list, on any machine.
 -- Assumes nothing.
 use mathlib.Core.Bool.{Bool, cond}
 use mathlib.Core.List.{List, [], _∷_, map}
@@ -9,14 +8,6 @@ use Rattle.board.specs.Runs.{replies}
 
 -- S the states, E the events
 module _ {S E : Type 0} (machine : S → E → Reply S) where
-  -- the events that are not struck out, each as `shown` has it
-  unfoldable pub remainder : (E → Answer → Bool) → (E → E) → S → List E → List E
-  remainder struck shown s [] = []
-  remainder struck shown s (e ∷ es) =
-      let r : Reply S = machine s e in
-      let rest : List E = remainder struck shown (r .state) es in
-      cond (struck e (r .answer)) rest (shown e ∷ rest)
-
   -- the answers to all events
   abbrev pub allAnswers : S → List E → List Answer
   allAnswers s es = map (λ (r : Reply S). r .answer) (replies machine s es)

@@ -5,7 +5,7 @@ use mathlib.Core.Bool.{Bool, true, not, _&&_, _||_}
 use mathlib.Core.List.{List, [], _∷_}
 use Prim.Native.Nat.{ℕ, zero, suc, _-_}
 use lib.Dec.{eqb, ltb}
-use Rattle.words.specs.Table.{tab}
+use Rattle.words.specs.Bits.{every}
 use Rattle.counter.specs.Mode.{XS, K}
 use Rattle.control.specs.Safety.{pinTriggers}
 use Rattle.calls.specs.Reply.{Reply}
@@ -21,10 +21,6 @@ use Rattle.isolation.specs.Claim.{ClosedThroughout}
 unfoldable pub all : List Bool → Bool
 all [] = true
 all (t ∷ ts) = t && all ts
-
--- f holds of 0 to n − 1
-abbrev pub every : ℕ → (ℕ → Bool) → Bool
-every n f = all (tab n f)
 
 abbrev pub implies : Bool → Bool → Bool
 implies s t = not s || t

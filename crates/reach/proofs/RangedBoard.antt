@@ -5,7 +5,7 @@ use mathlib.Core.Bool.{Bool, true, false, not, Bool·beq}
 use mathlib.Core.List.{List}
 use Prim.Native.Nat.{ℕ, _+_, _*_, _<_}
 use borrow.Author.Tests.{ltb-true, lt-ltb}
-use lib.Dec.{ltb}
+use lib.Dec.{eqb}
 use lib.ListN.{set, length-set}
 use lib.Seq.{set-getD}
 use Rattle.words.specs.Bits.{bit}
@@ -27,6 +27,7 @@ use Rattle.board.specs.declared.Class.the-variants.{Step, OnChannel, OnPin, OnV
 use Rattle.board.specs.Handed.{lostCleared}
 use Rattle.board.specs.declared.Board.{Board}
 use Rattle.board.specs.declared.Scene.{Scene}
+use Rattle.board.proofs.Checks.{by-checks}
 use Rattle.board.proofs.Same.{InRange}
 use Rattle.words.proofs.Cases.{either, taken}
 use Rattle.words.proofs.Tables.{length-tab, getD-tab, set-keeps}
@@ -63,16 +64,12 @@ stepped-ranged v w b r = record {
 
 -- ---- the calls
 
--- what holds of the refusals 3 and 1, and of a reply where the member is one of n and the fields fit, holds of the reply past these checks
-pub past-checks : (P : Reply Board → Type 0) (n : ℕ) (e : Event) (b : Board) (x : Reply Board) → P (refuse 3 b) → P (refuse 1 b)
-    → (e .member < n → fits e ≡ true → P x) → P (checked (refusalIn n e) b x)
-unfolding refusalIn
-past-checks P n e b x p q s = go (ltb (e .member) n) refl (fits e) refl
-  where
-    go : (t : Bool) → ltb (e .member) n ≡ t → (u : Bool) → fits e ≡ u → P (checked (refusalIn n e) b x)
-    go true h true f = rw (h, f) (s (ltb-true _ _ h) f)
-    go true h false f = rw (h, f) p
-    go false h u f = rw h q
+-- what holds of every refusal that leaves the board, and of a reply where the member is one of n and the fields fit, holds of the reply past these
+-- checks
+pub past-checks : (P : Reply Board → Type 0) (n : ℕ) (writes : Bool) (e : Event) (b : Board) (x : Reply Board)
+    → ((m : ℕ) → eqb m 0 ≡ false → eqb m 6 ≡ false → P (refuse m b)) → (e .member < n → fits e ≡ true → P x) → P (checked (refusalIn n writes e) b x)
+past-checks P n writes e b x r s =
+    by-checks n writes e (λ k. P (checked k b x)) (λ _. r 1 refl refl) (λ _ _. r 3 refl refl) (λ _ _ _. r 12 refl refl) (λ h f _. s (ltb-true _ _ h) f)
 
 -- an answer 6 sets the member's lost count to 0
 abbrev pub SoundEvent : Board → Event → Reply Board → Type 0
@@ -97,9 +94,10 @@ module _ (b : Board) (r : InRange b) where
   set-lost m c k h = ap (λ d. withChannels (set (b .channels) m d) b) h ∙ sym (taken _ _ (lt-ltb m 6 k))
 
   module _ (e : Event) where
-    -- the refusals 1 and 3 leave the board, so the call counts only where the member is one of n and the fields fit
-    checked-sound : (n : ℕ) (x : Reply Board) → (e .member < n → fits e ≡ true → SoundEvent b e x) → SoundEvent b e (checked (refusalIn n e) b x)
-    checked-sound n x = past-checks (SoundEvent b e) n e b x (refusal 3 b refl r refl) (refusal 1 b refl r refl)
+    -- the call counts only where the member is one of n and the fields fit
+    checked-sound : (n : ℕ) (x : Reply Board) → (e .member < n → fits e ≡ true → SoundEvent b e x)
+        → SoundEvent b e (checked (refusalIn n (b .core .safety .writes) e) b x)
+    checked-sound n x = past-checks (SoundEvent b e) n _ e b x (λ m _ s. refusal m b s r refl)
 
     by-class : (k : Class) → SoundEvent b e (calledBy k b e)
     unfolding calledBy refusalBy passedBy
@@ -112,13 +110,13 @@ module _ (b : Board) (r : InRange b) where
     by-class OnPin =
         checked-sound 48 _ (λ m f.
         put-back (λ q. withPins (putPin (e .member) q (b .pins)) b) _
-        (pin-sound (pinAt (b .pins) (e .member)) (pin-ranged (b .pins) (r .pins) (e .member) m) _ e f)
+        (pin-sound (pinAt (b .pins) (e .member)) (pin-ranged (b .pins) (r .pins) (e .member) m) e f)
         (λ q p. record { six = r .six; channels = r .channels; pins = put-pin-ranged (b .pins) (r .pins) (e .member) q p; virtuals = r .virtuals; core = r .core })
         (λ q n. absurd n) (λ q n. absurd n))
     by-class OnVirtual =
         checked-sound 6 _ (λ m f.
         put-back (λ o. withVirtuals (putVirtual (e .member) o (b .virtuals)) b) _
-        (virtual-sound _ e (virtualAt (b .virtuals) (e .member)))
+        (virtual-sound e (virtualAt (b .virtuals) (e .member)))
         (λ o p. record { six = r .six; channels = r .channels; pins = r .pins; virtuals = put-virtual-ranged (e .member) o (b .virtuals); core = r .core })
         (λ o n. absurd n) (λ o n. absurd n))
     by-class OnBoard =

@@ -24,15 +24,15 @@ use Rattle.reach.proofs.Sound.{Sound, Never, done}
 pub record PinInRange (q : Pin) : Type 0 where
   pub source : isSource (q .source) ≡ true
 
-pub pin-sound : (q : Pin) → PinInRange q → (writes : Bool) (e : Event) → fits e ≡ true → Sound PinInRange Never Never (pinCall writes e q)
+pub pin-sound : (q : Pin) → PinInRange q → (e : Event) → fits e ≡ true → Sound PinInRange Never Never (pinCall e q)
 unfolding pinCall limit limits
-pin-sound q r writes e f =
+pin-sound q r e f =
     let S = Sound PinInRange Never Never in
     let k = e .kind in
     tested S (eqb k 13) (λ h. done (record { source = below-limit e f 13 h })) (λ _.
     either S (eqb k 14) (done (record { source = r .source }))
-    (either S (eqb k 15) (done (either PinInRange writes (record { source = r .source }) r))
-    (either S (eqb k 16) (done (either PinInRange writes (record { source = r .source }) r))
+    (either S (eqb k 15) (done (record { source = r .source }))
+    (either S (eqb k 16) (done (record { source = r .source }))
     (done r))))
 
 -- ---- all pins

@@ -1,6 +1,5 @@
 -- A call of a virtual output keeps the outputs in range.
 -- Assumes nothing.
-use mathlib.Core.Bool.{Bool}
 use Prim.Native.Nat.{ℕ}
 use lib.Dec.{eqb}
 use Rattle.ports.specs.Virtuals.{putVirtual}
@@ -13,9 +12,9 @@ use Rattle.words.proofs.Cases.{either}
 use Rattle.reach.proofs.Sound.{Sound, Never, done}
 
 -- every record of one output is in range
-pub virtual-sound : (writes : Bool) (e : Event) (o : Virtual) → Sound (λ y. Unit {0}) Never Never (virtualCall writes e o)
+pub virtual-sound : (e : Event) (o : Virtual) → Sound (λ y. Unit {0}) Never Never (virtualCall e o)
 unfolding virtualCall
-virtual-sound writes e o =
+virtual-sound e o =
     let S = Sound (λ y. Unit {0}) Never Never in
     either S (eqb (e .kind) 18) (done tt) (either S (eqb (e .kind) 19) (done tt) (either S (eqb (e .kind) 20) (done tt) (done tt)))
 

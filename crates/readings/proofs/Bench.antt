@@ -25,8 +25,8 @@ use Rattle.board.specs.Inputs.{extouts, indexOf, samplesOf, inputsOf, channelNe
 use Rattle.board.specs.Respond.{refusalIn, refusalBy, passedBy, calledBy, respondWith, respond}
 use Rattle.board.specs.Runs.{finish, replies}
 use Rattle.board.specs.Step.{sceneOf, coreNext, stepWith, stepped}
-use Rattle.readings.specs.Readings.{steps, traced, extoutsIn, answersIn, seen, read, delay, cascade, turn, error, seventeen, entries, pulses, heads, gate, staged, table}
+use Rattle.readings.specs.Readings.{steps, traced, extoutsIn, answersIn, seen, read, delay, cascade, turn, error, seventeen, entries, pulses, heads, gate, staged, safePin, table}
 
 pub readings : map read table ≡ map (λ r. r .numbers) table
-unfolding bit word some tab edgeReasons look counted masked asked loaded nextOf settled step advance clocked errs preloaded started captured popped resetChannel pinAt putPin pinLevel sensed driven resetPins virtualAt putVirtual virtualLevels resetVirtuals routed advanced ticks guarded restsAfter expiredAfter watchedIn watched kicked withInterval switched resetCore intervalWrite boardCall modeWrite registerWrite routeWrite snapshotRead channelCall stepFits limits limit selectors fits pinCall virtualCall resetBoard extouts indexOf samplesOf inputsOf channelNext allNext refusalIn refusalBy passedBy calledBy respondWith respond finish replies sceneOf coreNext stepWith stepped steps traced extoutsIn answersIn seen read delay cascade turn error seventeen entries pulses heads gate staged table
+unfolding bit word some tab edgeReasons look counted masked asked loaded nextOf settled step advance clocked errs preloaded started captured popped resetChannel pinAt putPin pinLevel sensed driven resetPins virtualAt putVirtual virtualLevels resetVirtuals routed advanced ticks guarded restsAfter expiredAfter watchedIn watched kicked withInterval switched resetCore intervalWrite boardCall modeWrite registerWrite routeWrite snapshotRead channelCall stepFits limits limit selectors fits pinCall virtualCall resetBoard extouts indexOf samplesOf inputsOf channelNext allNext refusalIn refusalBy passedBy calledBy respondWith respond finish replies sceneOf coreNext stepWith stepped steps traced extoutsIn answersIn seen read delay cascade turn error seventeen entries pulses heads gate staged safePin table
 readings = refl

@@ -119,12 +119,25 @@ pressed = lines 0 (2 ^ 47)
 unfoldable pub staged : ℕ → ℕ → ℕ → List Event
 staged a b c = register 25 0 0 a ∷ register 25 0 1 b ∷ register 25 0 2 c ∷ call 26 0 1 ∷ []
 
--- the answer of a status read
-abbrev status : ℕ → List ℕ
-status n = 0 ∷ n ∷ 0 ∷ 0 ∷ []
+-- the answer of a read
+abbrev told : ℕ → List ℕ
+told n = 0 ∷ n ∷ 0 ∷ 0 ∷ []
 
 abbrev pub statusRead : Look
 statusRead = answer (call 29 0 0)
+
+-- request 5: the four safe writes
+abbrev pub safeWrites : Look
+safeWrites = answers (call 15 47 0 ∷ call 16 47 0 ∷ call 19 5 0 ∷ call 20 5 0 ∷ [])
+
+-- request 5: pin 0 in safemode, two steps after its safe data was written as 1
+unfoldable pub safePin : List Event
+safePin = call 15 0 1 ∷ call 22 0 1 ∷ steps 2
+
+-- answers with nothing but their results
+abbrev pub results : List ℕ → List ℕ
+results [] = []
+results (r ∷ rs) = r ∷ 0 ∷ 0 ∷ 0 ∷ results rs
 
 -- ---- the table
 
@@ -174,18 +187,26 @@ table =
     -- the edge is captured in the step of the button
     ∷ reading (gate 0x30 ++ (call 5 0 32 ∷ []) ++ steps 3 ++ (button ∷ pressed ∷ [])) (answer (call 11 0 0)) (0 ∷ 4 ∷ 0 ∷ 32 ∷ [])
     -- request 3: with intervals 2, 1 and 1 the stages expire in steps 2, 3 and 4
-    ∷ reading (staged 2 1 1 ++ steps 1) statusRead (status 8) ∷ reading (staged 2 1 1 ++ steps 2) statusRead (status 10)
-    ∷ reading (staged 2 1 1 ++ steps 3) statusRead (status 26) ∷ reading (staged 2 1 1 ++ steps 4) statusRead (status 58)
+    ∷ reading (staged 2 1 1 ++ steps 1) statusRead (told 8) ∷ reading (staged 2 1 1 ++ steps 2) statusRead (told 10)
+    ∷ reading (staged 2 1 1 ++ steps 3) statusRead (told 26) ∷ reading (staged 2 1 1 ++ steps 4) statusRead (told 58)
     -- with 1, 3 and 2 in steps 1, 4 and 6
-    ∷ reading (staged 1 3 2 ++ steps 3) statusRead (status 10) ∷ reading (staged 1 3 2 ++ steps 4) statusRead (status 26)
-    ∷ reading (staged 1 3 2 ++ steps 5) statusRead (status 26) ∷ reading (staged 1 3 2 ++ steps 6) statusRead (status 58)
+    ∷ reading (staged 1 3 2 ++ steps 3) statusRead (told 10) ∷ reading (staged 1 3 2 ++ steps 4) statusRead (told 26)
+    ∷ reading (staged 1 3 2 ++ steps 5) statusRead (told 26) ∷ reading (staged 1 3 2 ++ steps 6) statusRead (told 58)
     -- a kick begins all three again
-    ∷ reading (staged 2 1 1 ++ steps 3 ++ (call 27 0 0 ∷ [])) statusRead (status 8)
-    ∷ reading (staged 2 1 1 ++ steps 3 ++ (call 27 0 0 ∷ []) ++ steps 3) statusRead (status 26)
+    ∷ reading (staged 2 1 1 ++ steps 3 ++ (call 27 0 0 ∷ [])) statusRead (told 8)
+    ∷ reading (staged 2 1 1 ++ steps 3 ++ (call 27 0 0 ∷ []) ++ steps 3) statusRead (told 26)
     -- disabled between stages 1 and 2, which keeps what has expired; enabled again
-    ∷ reading (staged 2 1 1 ++ steps 3 ++ (call 26 0 0 ∷ []) ++ steps 5) statusRead (status 18)
-    ∷ reading (staged 2 1 1 ++ steps 3 ++ (call 26 0 0 ∷ call 26 0 1 ∷ []) ++ steps 3) statusRead (status 26)
+    ∷ reading (staged 2 1 1 ++ steps 3 ++ (call 26 0 0 ∷ []) ++ steps 5) statusRead (told 18)
+    ∷ reading (staged 2 1 1 ++ steps 3 ++ (call 26 0 0 ∷ call 26 0 1 ∷ []) ++ steps 3) statusRead (told 26)
     -- the selector, and an enabled watchdog
     ∷ reading [] (answer (register 25 0 3 5)) (3 ∷ 0 ∷ 0 ∷ 0 ∷ []) ∷ reading [] (answer (register 25 0 2 5)) (0 ∷ 0 ∷ 0 ∷ 0 ∷ [])
     ∷ reading [] (answer (register 25 0 1 0)) (3 ∷ 0 ∷ 0 ∷ 0 ∷ []) ∷ reading (staged 2 1 1) (answer (register 25 0 2 5)) (7 ∷ 0 ∷ 0 ∷ 0 ∷ [])
+    -- request 5: a value of 2, a value of 1, and pin 48, with SWE 0
+    ∷ reading [] (answers (call 15 0 2 ∷ call 15 0 1 ∷ call 15 48 1 ∷ [])) (results (3 ∷ 12 ∷ 1 ∷ []))
+    -- the four safe writes with SWE 0, 1, and 0 again; the other pin and virtual output calls with SWE 0
+    ∷ reading [] safeWrites (results (12 ∷ 12 ∷ 12 ∷ 12 ∷ [])) ∷ reading (call 23 0 1 ∷ []) safeWrites (results (0 ∷ 0 ∷ 0 ∷ 0 ∷ []))
+    ∷ reading (call 23 0 1 ∷ call 23 0 0 ∷ []) safeWrites (results (12 ∷ 12 ∷ 12 ∷ 12 ∷ []))
+    ∷ reading [] (answers (call 13 0 1 ∷ call 14 0 1 ∷ call 17 0 0 ∷ call 18 0 0 ∷ call 21 0 0 ∷ [])) (results (0 ∷ 0 ∷ 0 ∷ 0 ∷ 0 ∷ []))
+    -- what was answered 12 is not written
+    ∷ reading safePin (answer (call 17 0 0)) (told 0) ∷ reading (call 23 0 1 ∷ safePin) (answer (call 17 0 0)) (told 1)
     ∷ []

@@ -1,7 +1,7 @@
 -- Request 3, what stays as it was: the answers but for two bits, on the present machine and the one before it, side by side.
 -- Assumes nothing.
 use mathlib.Core.Path.{_≡_, refl, sym, ap, _∙_}
-use mathlib.Core.Bool.{Bool, true, false, cond, _&&_, and-eq-true-iff, true≢false}
+use mathlib.Core.Bool.{Bool, true, false, cond, not, _&&_, and-eq-true-iff, true≢false}
 use mathlib.Core.List.{List, [], _∷_}
 use Prim.Native.Nat.{ℕ, suc, _+_, _-_, _*_, _≤_, _<_}
 use native.Mathlib.Omega.{arith}
@@ -33,11 +33,13 @@ use Rattle.board.specs.Runs.{finish}
 use Rattle.board.specs.declared.Class.{Class}
 use Rattle.board.specs.declared.Class.the-variants.{Step, OnChannel, OnPin, OnVirtual, OnBoard, Unknown}
 use Rattle.board.specs.declared.Board.{Board}
-use Rattle.board.proofs.Classes.{other-kind, board-kinds}
+use Rattle.board.proofs.Classes.{other-kind, kinds-of}
 use Rattle.reach.specs.Claim.{Every}
 use Rattle.reach.proofs.Fitting.{below-selectors}
 use Rattle.requests.specs.Stages.{dog}
-use Rattle.requests.specs.Before.{steppedBefore, calledBefore, respondBefore, writesStage, without45, shown, answersAs, SameStage, SameBut, Before3}
+use Rattle.requests.specs.Lists.{answersAs}
+use Rattle.requests.specs.Without.{steppedWithout3, calledWithout3, without3}
+use Rattle.requests.specs.Before.{writesStage, without45, shown, SameStage, SameBut, Before3}
 
 -- ---- the watchdog
 
@@ -112,7 +114,7 @@ module _ (b : Board) (x : Watchdog) (s : SameStage (dog b) x) where
   abbrev earlier : Board
   earlier = withCore (withWatchdog x (b .core)) b
 
-  stepped-alike : (v w : ℕ) → SameBut (stepped v w b) (steppedBefore v w earlier)
+  stepped-alike : (v w : ℕ) → SameBut (stepped v w b) (steppedWithout3 v w earlier)
   unfolding stepped stepWith coreNext
   stepped-alike v w =
       let n = watched-alike (dog b) x s in
@@ -173,7 +175,7 @@ module _ (b : Board) (x : Watchdog) (s : SameStage (dog b) x) where
         let d = dog b in
         let clock = b .core .clock in
         let safety = b .core .safety in
-        let range = board-kinds n class in
+        let range = kinds-of n OnBoard class in
         let past : (k : ℕ) → k ≤ n → eqb n k ≡ false → suc k ≤ n = λ k l h. omega (arith, eqb-false n k h) in
         paired R (eqb n 22) (λ _. accepts clock _ d x s) (λ h₂₂.
         paired R (eqb n 23) (λ _. accepts clock _ d x s) (λ h₂₃.
@@ -206,7 +208,7 @@ module _ (b : Board) (x : Watchdog) (s : SameStage (dog b) x) where
 
     class-alike : (C : Class) → classOf (e .kind) ≡ C → Follows e (calledBy C b e) (calledBy C earlier e)
     unfolding calledBy
-    class-alike C class = checked-alike (refusalBy C e) (passedBy C b e) (passedBy C earlier e) (passed-alike C class)
+    class-alike C class = checked-alike (refusalBy C (b .core .safety .writes) e) (passedBy C b e) (passedBy C earlier e) (passed-alike C class)
 
     -- call 25 with a selector above 2 is refused by both
     module _ (w : writesStage e ≡ false) (t : (eqb (e .kind) 25 && ltb 0 (e .selector)) ≡ true) where
@@ -237,18 +239,18 @@ module _ (b : Board) (x : Watchdog) (s : SameStage (dog b) x) where
           let class : classOf (e .kind) ≡ OnBoard = rw kind refl in
           ap (λ C. calledBy C b e) class ∙ rw (unfit (fits e) refl) (go (ltb (e .member) 1))
         where
-          go : (u : Bool) → checked (cond u 3 1) b (passedBy OnBoard b e) ≡ refuse (cond u 3 1) b
+          go : (u : Bool) → checked (cond (not u) 1 3) b (passedBy OnBoard b e) ≡ refuse (cond u 3 1) b
           go true = refl
           go false = refl
 
-    called-alike : writesStage e ≡ false → Follows e (called b e) (calledBefore earlier e)
+    called-alike : writesStage e ≡ false → Follows e (called b e) (calledWithout3 earlier e)
     called-alike w =
         tested (Follows e (called b e)) (eqb (e .kind) 25 && ltb 0 (e .selector))
         (λ t. rw (refused-stage w t) (refused (cond (ltb (e .member) 1) 3 1)))
         (λ _. class-alike (classOf (e .kind)) refl)
 
-    event-alike : writesStage e ≡ false → Follows e (respond b e) (respondBefore earlier e)
-    unfolding respond respondBefore respondWith
+    event-alike : writesStage e ≡ false → Follows e (respond b e) (without3 earlier e)
+    unfolding respond without3 respondWith
     event-alike w =
         paired (Follows e) (isStep e) (λ h. record { answer = zero-shown 0; state = stepped-alike (e .v) (e .w) }) (λ h. called-alike w)
 
@@ -263,17 +265,17 @@ as-one {b = b} {c = c} s = λ i. record {
   core = record { clock = s .clock i; watchdog = c .core .watchdog; safety = s .safety i };
 }
 
-next-alike : (e : Event) → writesStage e ≡ false → (b c : Board) → SameBut b c → Follows e (respond b e) (respondBefore c e)
+next-alike : (e : Event) → writesStage e ≡ false → (b c : Board) → SameBut b c → Follows e (respond b e) (without3 c e)
 next-alike e w b c s = rw (as-one s) (event-alike b (dog c) (s .watchdog) e w)
 
 list-alike : (es : List Event) → Every (λ e. writesStage e ≡ false) es → (b c : Board) → SameBut b c
-    → (answersAs shown respond b es ≡ answersAs (λ e a. a) respondBefore c es) × SameBut (finish respond b es) (finish respondBefore c es)
+    → (answersAs shown respond b es ≡ answersAs (λ e a. a) without3 c es) × SameBut (finish respond b es) (finish without3 c es)
 unfolding finish
 list-alike [] w b c s = (refl, s)
 list-alike (e ∷ es) w b c s =
     let f = next-alike e (w .0) b c s in
-    let more = list-alike es (w .1) (respond b e .state) (respondBefore c e .state) (f .state) in
-    (ap (λ (a : Answer). a ∷ answersAs shown respond (respond b e .state) es) (f .answer) ∙ ap (λ l. respondBefore c e .answer ∷ l) (more .0), more .1)
+    let more = list-alike es (w .1) (respond b e .state) (without3 c e .state) (f .state) in
+    (ap (λ (a : Answer). a ∷ answersAs shown respond (respond b e .state) es) (f .answer) ∙ ap (λ l. without3 c e .answer ∷ l) (more .0), more .1)
 
 pub before3 : Before3
 unfolding resetBoard resetCore

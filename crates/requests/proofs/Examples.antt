@@ -1,4 +1,4 @@
--- Request 3: the list of the example, computed on both machines.
+-- The lists of the examples, computed on the machine and on the one without the request.
 -- Assumes nothing.
 use mathlib.Core.Path.{refl}
 use Rattle.words.specs.Bits.{bit, word, some}
@@ -23,9 +23,9 @@ use Rattle.board.specs.Handed.{resetBoard}
 use Rattle.board.specs.Inputs.{extouts, indexOf, samplesOf, inputsOf, channelNext, allNext}
 use Rattle.board.specs.Respond.{refusalIn, refusalBy, passedBy, calledBy, respondWith, respond}
 use Rattle.board.specs.Step.{sceneOf, coreNext, stepWith, stepped}
-use Rattle.requests.specs.Before.{respondBefore}
-use Rattle.requests.specs.Examples.{stages, Apart}
+use Rattle.requests.specs.Without.{without3, without5}
+use Rattle.requests.specs.Examples.{stages, safeWrites, EachApart}
 
-pub apart : Apart
-unfolding bit word some tab edgeReasons look counted masked asked loaded nextOf settled step advance clocked errs preloaded started captured popped resetChannel pinAt putPin pinLevel sensed driven resetPins virtualAt putVirtual virtualLevels resetVirtuals routed advanced ticks guarded restsAfter expiredAfter watchedIn watched kicked withInterval switched resetCore intervalWrite boardCall modeWrite registerWrite routeWrite snapshotRead channelCall stepFits limits limit selectors fits pinCall virtualCall resetBoard extouts indexOf samplesOf inputsOf channelNext allNext refusalIn refusalBy passedBy calledBy respondWith respond sceneOf coreNext stepWith stepped respondBefore stages
-apart = record { now = refl; before = refl }
+pub apart : EachApart
+unfolding bit word some tab edgeReasons look counted masked asked loaded nextOf settled step advance clocked errs preloaded started captured popped resetChannel pinAt putPin pinLevel sensed driven resetPins virtualAt putVirtual virtualLevels resetVirtuals routed advanced ticks guarded restsAfter expiredAfter watchedIn watched kicked withInterval switched resetCore intervalWrite boardCall modeWrite registerWrite routeWrite snapshotRead channelCall stepFits limits limit selectors fits pinCall virtualCall resetBoard extouts indexOf samplesOf inputsOf channelNext allNext refusalIn refusalBy passedBy calledBy respondWith respond sceneOf coreNext stepWith stepped without3 without5 stages safeWrites
+apart = record { request3 = record { answers = refl; earlier = refl }; request5 = record { answers = refl; earlier = refl } }

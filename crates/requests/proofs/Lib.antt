@@ -3,4 +3,5 @@ pub mod Pulse
 pub mod Safe
 pub mod Stages
 pub mod Before
+pub mod Told
 pub mod Examples

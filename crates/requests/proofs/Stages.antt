@@ -1,7 +1,7 @@
 -- Request 3: what a step makes of each stage, and that each has expired after exactly the sum of the intervals up to it.
 -- Assumes nothing.
 use mathlib.Core.Path.{_≡_, refl, sym, ap, _∙_}
-use mathlib.Core.Bool.{Bool, true, false, cond, not, _&&_, _||_, and-eq-true-iff, or-false, true≢false, false≢true}
+use mathlib.Core.Bool.{Bool, true, false, cond, not, _&&_, _||_, and-eq-true-iff, or-false, true≢false}
 use mathlib.Core.List.{List, [], _∷_}
 use Prim.Native.Nat.{ℕ, zero, suc, _+_, _-_, _≤_, _<_}
 use native.Mathlib.Omega.{arith}
@@ -29,7 +29,8 @@ use Rattle.board.proofs.Steps.{of-step, of-call, step-answered}
 use Rattle.reach.proofs.Fitting.{below-limit}
 use Rattle.reach.proofs.RangedBoard.{past-checks}
 use Rattle.reach.proofs.Reach.{demand2}
-use Rattle.requests.specs.Stages.{dog, runs, Turn, OnStages, sumOf, accepted, begins, ends, Undisturbed, stepsIn, Sums, Request3}
+use Rattle.requests.specs.Lists.{NoneOf}
+use Rattle.requests.specs.Stages.{dog, runs, Turn, OnStages, sumOf, accepted, begins, ends, stepsIn, Sums, Request3}
 use Rattle.requests.specs.Steps.{InSteps}
 use Rattle.requests.proofs.Steps.{in-steps, in-steps-handed}
 
@@ -210,10 +211,10 @@ module _ (b : Board) (e : Event) (enabled : dog b .enabled ≡ true) where
   by-class : (C : Class) → Keeps dog (calledBy C b e)
   unfolding calledBy refusalBy passedBy Keeps
   by-class Step = λ _. refl
-  by-class OnChannel = past-checks (Keeps dog) 6 e b _ (λ _. refl) (λ _. refl) (λ m f _. refl)
-  by-class OnPin = past-checks (Keeps dog) 48 e b _ (λ _. refl) (λ _. refl) (λ m f _. refl)
-  by-class OnVirtual = past-checks (Keeps dog) 6 e b _ (λ _. refl) (λ _. refl) (λ m f _. refl)
-  by-class OnBoard = past-checks (Keeps dog) 1 e b _ (λ _. refl) (λ _. refl) (λ m f. core-keeps f)
+  by-class OnChannel = past-checks (Keeps dog) 6 _ e b _ (λ _ _ _ _. refl) (λ m f _. refl)
+  by-class OnPin = past-checks (Keeps dog) 48 _ e b _ (λ _ _ _ _. refl) (λ m f _. refl)
+  by-class OnVirtual = past-checks (Keeps dog) 6 _ e b _ (λ _ _ _ _. refl) (λ m f _. refl)
+  by-class OnBoard = past-checks (Keeps dog) 1 _ e b _ (λ _ _ _ _. refl) (λ m f. core-keeps f)
   by-class Unknown = λ _. refl
 
   kept : isStep e ≡ false → ends b e ≡ false → dog (respond b e .state) ≡ dog b
@@ -221,7 +222,7 @@ module _ (b : Board) (e : Event) (enabled : dog b .enabled ≡ true) where
   kept s = rw (of-call b e s) (by-class (classOf (e .kind)))
 
 -- a list in which no event kicks or disables
-counted-list : (i : Watchdog) → ((k : ℕ) → k < 3 → 0 < intervalOf i k) → (es : List Event) (b : Board) (n : ℕ) → Counted i n (dog b) → Undisturbed b es
+counted-list : (i : Watchdog) → ((k : ℕ) → k < 3 → 0 < intervalOf i k) → (es : List Event) (b : Board) (n : ℕ) → Counted i n (dog b) → NoneOf ends b es
     → Counted i (n + stepsIn b es) (dog (finish respond b es))
 unfolding finish
 counted-list i some [] b n c u = let none : n + 0 ≡ n = omega arith in rw none c
@@ -244,10 +245,10 @@ counted-list i some (e ∷ es) b n c u =
 
 module _ (b : Board) (e : Event) where
   -- a call of the board, past its checks
-  on-board : (P : Reply Board → Type 0) → isStep e ≡ false → classOf (e .kind) ≡ OnBoard → P (refuse 3 b) → P (refuse 1 b) → P (onCore (boardCall e) b)
-      → P (respond b e)
+  on-board : (P : Reply Board → Type 0) → isStep e ≡ false → classOf (e .kind) ≡ OnBoard → ((m : ℕ) → eqb m 0 ≡ false → P (refuse m b))
+      → P (onCore (boardCall e) b) → P (respond b e)
   unfolding calledBy refusalBy passedBy
-  on-board P s class p q x = rw (of-call b e s, class) (past-checks P 1 e b _ p q (λ m f. x))
+  on-board P s class r x = rw (of-call b e s, class) (past-checks P 1 _ e b _ (λ m z _. r m z) (λ m f. x))
 
   abbrev Begun : Reply Board → Type 0
   Begun r = eqb (r .answer .result) 0 ≡ true → Counted (dog b) 0 (dog (r .state))
@@ -256,13 +257,13 @@ module _ (b : Board) (e : Event) where
     enabling : e .kind ≡ 26 → e .v ≡ 1 → dog b .enabled ≡ false → Begun (respond b e)
     unfolding boardCall switched kicked
     enabling k v off =
-        on-board Begun (rw k refl) (rw k refl) (λ h. absurd (false≢true h)) (λ h. absurd (false≢true h))
+        on-board Begun (rw k refl) (rw k refl) (λ m z h. absurd (true≢false (sym h ∙ z)))
         (rw (k, v) (λ _. tested (Counted (dog b) 0) (dog b .enabled) (λ on. absurd (true≢false (sym on ∙ off))) (λ _. counted-first (dog b) some _ refl refl refl)))
 
     kicking : e .kind ≡ 27 → dog b .enabled ≡ true → Begun (respond b e)
     unfolding boardCall kicked
     kicking k on =
-        on-board Begun (rw k refl) (rw k refl) (λ h. absurd (false≢true h)) (λ h. absurd (false≢true h)) (rw k (λ _. counted-first (dog b) some _ on refl refl))
+        on-board Begun (rw k refl) (rw k refl) (λ m z h. absurd (true≢false (sym h ∙ z))) (rw k (λ _. counted-first (dog b) some _ on refl refl))
 
     begun-count : begins b e ≡ true → Counted (dog b) 0 (dog (respond b e .state))
     begun-count h =

@@ -1,36 +1,22 @@
--- Request 3, what stays as it was: the machine before it, over the same record, and the answers that they share.
+-- Request 3, what stays as it was: the answers and the boards that the machine shares with the one before it.
 -- Assumes nothing.
 use mathlib.Core.Path.{_≡_}
 use mathlib.Core.Bool.{Bool, false, cond, _&&_, _||_}
-use mathlib.Core.List.{List, [], _∷_}
+use mathlib.Core.List.{List}
 use Prim.Native.Nat.{ℕ, _+_, _*_, _/_, _%_}
-use lib.Dec.{eqb, ltb}
-use Rattle.ports.specs.Pins.{sensed}
-use Rattle.control.specs.Watchdog.{restOf, hasExpired, watchedIn}
+use lib.Dec.{eqb}
+use Rattle.control.specs.Watchdog.{restOf, hasExpired}
 use Rattle.control.specs.declared.Watchdog.{Watchdog}
-use Rattle.calls.specs.Reply.{Reply, refuse}
 use Rattle.calls.specs.declared.Event.{Event}
 use Rattle.calls.specs.declared.Answer.{Answer}
-use Rattle.board.specs.Step.{stepWith}
-use Rattle.board.specs.Respond.{called, respondWith, respond}
+use Rattle.board.specs.Respond.{respond}
 use Rattle.board.specs.Handed.{resetBoard}
 use Rattle.board.specs.Runs.{finish}
 use Rattle.board.specs.declared.Board.{Board}
 use Rattle.reach.specs.Claim.{Every}
+use Rattle.requests.specs.Lists.{answersAs}
+use Rattle.requests.specs.Without.{without3}
 use Rattle.requests.specs.Stages.{dog}
-
--- ---- the machine before
-
--- of the watchdog one stage runs
-abbrev pub steppedBefore : ℕ → ℕ → Board → Board
-steppedBefore v w b = stepWith sensed (watchedIn 1) v w b
-
--- call 25 wants selector 0; another is a 3, behind the 1 for its member
-abbrev pub calledBefore : Board → Event → Reply Board
-calledBefore b e = cond (eqb (e .kind) 25 && ltb 0 (e .selector)) (refuse (cond (ltb (e .member) 1) 3 1) b) (called b e)
-
-unfoldable pub respondBefore : Board → Event → Reply Board
-respondBefore b e = respondWith steppedBefore calledBefore b e
 
 -- ---- the answers
 
@@ -46,11 +32,6 @@ without45 n = n % 16 + 64 * (n / 64)
 abbrev pub shown : Event → Answer → Answer
 shown e a =
     cond (eqb (e .kind) 29) (record { result = a .result; value = without45 (a .value); timestamp = a .timestamp; reason = a .reason }) a
-
--- of each event of a list, its answer as `show` has it
-abbrev pub answersAs : (Event → Answer → Answer) → (Board → Event → Reply Board) → Board → List Event → List Answer
-answersAs show machine b [] = []
-answersAs show machine b (e ∷ es) = show e (machine b e .answer) ∷ answersAs show machine (machine b e .state) es
 
 -- ---- the boards
 
@@ -72,8 +53,8 @@ pub record SameBut (b earlier : Board) : Type 0 where
   pub watchdog : SameStage (dog b) (dog earlier)
 
 pub record AsItWas (es : List Event) : Type 0 where
-  pub answers : answersAs shown respond resetBoard es ≡ answersAs (λ e a. a) respondBefore resetBoard es
-  pub last : SameBut (finish respond resetBoard es) (finish respondBefore resetBoard es)
+  pub answers : answersAs shown respond resetBoard es ≡ answersAs (λ e a. a) without3 resetBoard es
+  pub last : SameBut (finish respond resetBoard es) (finish without3 resetBoard es)
 
 -- every list of events from reset in which no interval of stage 1 or 2 is written
 abbrev pub Before3 : Type 0

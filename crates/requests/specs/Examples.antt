@@ -1,13 +1,17 @@
--- Request 3: a list that writes the intervals of stages 1 and 2, on the machine and on the one before it.
+-- Requests 3 and 5: a list for each that tells the machine from the one without the request.
 -- Assumes nothing.
 use mathlib.Core.Path.{_≡_}
-use mathlib.Core.List.{List, [], _∷_}
-use Rattle.calls.specs.Reply.{number}
+use mathlib.Core.List.{List, [], _∷_, map}
+use Prim.Native.Nat.{ℕ}
+use Rattle.calls.specs.Reply.{Reply, number}
 use Rattle.calls.specs.Events.{call, register, lines}
 use Rattle.calls.specs.declared.Event.{Event}
+use Rattle.calls.specs.declared.Answer.{Answer}
 use Rattle.board.specs.Respond.{respond}
 use Rattle.board.specs.Handed.{resetBoard}
-use Rattle.requests.specs.Before.{respondBefore, answersAs}
+use Rattle.board.specs.declared.Board.{Board}
+use Rattle.requests.specs.Lists.{answersAs}
+use Rattle.requests.specs.Without.{without3, without5}
 
 -- intervals 2, 1 and 1, and a status read after each of four steps
 unfoldable pub stages : List Event
@@ -16,12 +20,30 @@ stages =
     ∷ lines 0 0 ∷ call 29 0 0 ∷ lines 0 0 ∷ call 29 0 0 ∷ lines 0 0 ∷ call 29 0 0 ∷ lines 0 0 ∷ call 29 0 0
     ∷ []
 
-pub record Apart : Type 0 where
-  pub now : answersAs (λ e a. a) respond resetBoard stages
-      ≡ number 0 0 ∷ number 0 0 ∷ number 0 0 ∷ number 0 0
-      ∷ number 0 0 ∷ number 0 8 ∷ number 0 0 ∷ number 0 10 ∷ number 0 0 ∷ number 0 26 ∷ number 0 0 ∷ number 0 58
-      ∷ []
-  pub before : answersAs (λ e a. a) respondBefore resetBoard stages
-      ≡ number 0 0 ∷ number 3 0 ∷ number 3 0 ∷ number 0 0
-      ∷ number 0 0 ∷ number 0 8 ∷ number 0 0 ∷ number 0 10 ∷ number 0 0 ∷ number 0 10 ∷ number 0 0 ∷ number 0 10
-      ∷ []
+-- each safe write with SWE 0, two that do not pass the checks before, and each with SWE 1
+unfoldable pub safeWrites : List Event
+safeWrites =
+    call 15 0 1 ∷ call 16 0 0 ∷ call 19 5 1 ∷ call 20 5 0 ∷ call 15 48 1 ∷ call 19 5 2
+    ∷ call 23 0 1 ∷ call 15 0 1 ∷ call 16 0 0 ∷ call 19 5 1 ∷ call 20 5 0
+    ∷ []
+
+-- the answers to a list from reset, and those of a machine without a request
+pub record Apart (without : Board → Event → Reply Board) (es : List Event) (now before : List Answer) : Type 0 where
+  pub answers : answersAs (λ e a. a) respond resetBoard es ≡ now
+  pub earlier : answersAs (λ e a. a) without resetBoard es ≡ before
+
+-- answers that have a value
+abbrev pub values : List ℕ → List Answer
+values = map (number 0)
+
+-- answers that have a result
+abbrev pub results : List ℕ → List Answer
+results = map (λ r. number r 0)
+
+pub record EachApart : Type 0 where
+  pub request3 : Apart without3 stages
+      (values (0 ∷ 0 ∷ 0 ∷ 0 ∷ 0 ∷ 8 ∷ 0 ∷ 10 ∷ 0 ∷ 26 ∷ 0 ∷ 58 ∷ []))
+      (number 0 0 ∷ number 3 0 ∷ number 3 0 ∷ values (0 ∷ 0 ∷ 8 ∷ 0 ∷ 10 ∷ 0 ∷ 10 ∷ 0 ∷ 10 ∷ []))
+  pub request5 : Apart without5 safeWrites
+      (results (12 ∷ 12 ∷ 12 ∷ 12 ∷ 1 ∷ 3 ∷ 0 ∷ 0 ∷ 0 ∷ 0 ∷ 0 ∷ []))
+      (results (0 ∷ 0 ∷ 0 ∷ 0 ∷ 1 ∷ 3 ∷ 0 ∷ 0 ∷ 0 ∷ 0 ∷ 0 ∷ []))

@@ -1,6 +1,9 @@
 pub mod Steps
+pub mod Lists
+pub mod Without
 pub mod Pulse
 pub mod Safe
 pub mod Stages
 pub mod Before
+pub mod Told
 pub mod Examples

@@ -1,7 +1,7 @@
 -- Request 3, a watchdog with three stages: what a step makes of each stage, and after how many steps each has expired.
 -- Assumes nothing.
 use mathlib.Core.Path.{_≡_}
-use mathlib.Core.Bool.{Bool, true, false, cond, not, _&&_, _||_}
+use mathlib.Core.Bool.{Bool, true, cond, not, _&&_, _||_}
 use mathlib.Core.Logic.{_↔_}
 use mathlib.Core.List.{List, [], _∷_}
 use Prim.Native.Nat.{ℕ, zero, suc, _+_, _-_, _≤_, _<_}
@@ -14,6 +14,7 @@ use Rattle.board.specs.Handed.{resetBoard, inRange}
 use Rattle.board.specs.Runs.{finish}
 use Rattle.board.specs.declared.Board.{Board}
 use Rattle.requests.specs.Steps.{InSteps, InStepsHanded}
+use Rattle.requests.specs.Lists.{NoneOf}
 
 abbrev pub dog : Board → Watchdog
 dog b = b .core .watchdog
@@ -53,11 +54,6 @@ begins b e = accepted b e && ((eqb (e .kind) 26 && eqb (e .v) 1 && not (dog b .e
 abbrev pub ends : Board → Event → Bool
 ends b e = accepted b e && (eqb (e .kind) 27 || (eqb (e .kind) 26 && eqb (e .v) 0))
 
--- none of the events of a list, each on the board that it meets
-abbrev pub Undisturbed : Board → List Event → Type 0
-Undisturbed b [] = Unit
-Undisturbed b (e ∷ es) = (ends b e ≡ false) × Undisturbed (respond b e .state) es
-
 -- how many accepted steps a list has, from the board that its first event meets
 abbrev pub stepsIn : Board → List Event → ℕ
 stepsIn b [] = 0
@@ -66,7 +62,7 @@ stepsIn b (e ∷ es) = cond (eqb (e .kind) 0 && accepted b e) 1 0 + stepsIn (res
 -- whatever events follow, stage k has expired if and only if there were as many accepted steps as the intervals of stages 0 to k sum to
 abbrev pub Sums : Board → Type 0
 Sums b =
-    (e : Event) → begins b e ≡ true → (es : List Event) → Undisturbed (respond b e .state) es → (k : ℕ) → k < 3
+    (e : Event) → begins b e ≡ true → (es : List Event) → NoneOf ends (respond b e .state) es → (k : ℕ) → k < 3
     → (hasExpired (dog (finish respond b (e ∷ es))) k ≡ true) ↔ (sumOf (dog b) (suc k) ≤ stepsIn (respond b e .state) es)
 
 -- every board there is and every board handed in for the step; every board in range, and so the board after every list of events from reset, for

@@ -31,7 +31,7 @@ unfolding refusalBy
 channel-event-requires c κs =
     let r = c .before .before .before in
     let a = r .before .before .args in
-    named 6 (a .e) (passes (a .self) (a .e) _ _ (r .before .class-of .ensures) (r .refusal .ensures) OnChannel (c .enum-told .given .1) (c .before .before .if1 .left))
+    named 6 _ (a .e) (passes (a .self) (a .e) _ _ (r .before .class-of .ensures) (r .refusal .ensures) OnChannel (c .enum-told .given .1) (c .before .before .if1 .left))
 
 enum-told-2 : tie.Need-enum-told-2
 enum-told-2 c = search needs
@@ -41,7 +41,7 @@ unfolding refusalBy
 pin-event-requires c κs =
     let r = c .before .before .before in
     let a = r .before .before .args in
-    named 48 (a .e) (passes (a .self) (a .e) _ _ (r .before .class-of .ensures) (r .refusal .ensures) OnPin (c .enum-told2 .given .1) (c .before .before .if1 .left))
+    named 48 _ (a .e) (passes (a .self) (a .e) _ _ (r .before .class-of .ensures) (r .refusal .ensures) OnPin (c .enum-told2 .given .1) (c .before .before .if1 .left))
 
 enum-told-3 : tie.Need-enum-told-3
 enum-told-3 c = search needs
@@ -51,7 +51,7 @@ unfolding refusalBy
 virtual-event-requires c κs =
     let r = c .before .before .before in
     let a = r .before .before .args in
-    named 6 (a .e) (passes (a .self) (a .e) _ _ (r .before .class-of .ensures) (r .refusal .ensures) OnVirtual (c .enum-told3 .given .1) (c .before .before .if1 .left))
+    named 6 _ (a .e) (passes (a .self) (a .e) _ _ (r .before .class-of .ensures) (r .refusal .ensures) OnVirtual (c .enum-told3 .given .1) (c .before .before .if1 .left))
 
 board-event-requires : tie.Need-board-event-requires
 board-event-requires c κs = search needs
@@ -81,7 +81,7 @@ returns-5 c =
     let class = r .before .class-of .ensures in
     let found = r .refusal .ensures in
     let none = c .before .before .if1 .left in
-    let is = on-board _ (a .e) (sym found ∙ none) (c .before .match .keys4) in
+    let is = on-board _ _ (a .e) (sym found ∙ none) (c .before .match .keys4) in
     rw (c .board-event .ensures) (ap outcome (sym (passed-call (a .self) (a .e) _ _ class found OnBoard is none)))
 
 pub call-spec : {M : Type 1} → statement M
