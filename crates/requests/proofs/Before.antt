@@ -39,7 +39,7 @@ use Rattle.reach.proofs.Fitting.{below-selectors}
 use Rattle.requests.specs.Stages.{dog}
 use Rattle.requests.specs.Lists.{answersAs}
 use Rattle.requests.specs.Without.{steppedWithout3, calledWithout3, without3}
-use Rattle.requests.specs.Before.{writesStage, without45, shown, SameStage, SameBut, Before3}
+use Rattle.requests.specs.Before.{writesStage, lessStageBits, shown, SameStage, SameBut, Before3}
 
 -- ---- the watchdog
 
@@ -107,7 +107,7 @@ record Follows (e : Event) (r q : Reply Board) : Type 0 where
   state : SameBut (r .state) (q .state)
 
 -- without bits 4 and 5 two flags are gone
-low-four : (a b c d f g : Bool) → without45 (flags a b c d + 16 * flags f g false false) ≡ flags a b c d + 16 * flags false false false false
+low-four : (a b c d f g : Bool) → lessStageBits (flags a b c d + 16 * flags f g false false) ≡ flags a b c d + 16 * flags false false false false
 low-four a b c d f g = omega (arith, flag-lt a, flag-lt b, flag-lt c, flag-lt d, flag-lt f, flag-lt g)
 
 module _ (b : Board) (x : Watchdog) (s : SameStage (dog b) x) where

@@ -28,7 +28,7 @@ use Rattle.board.proofs.Steps.{of-call}
 use Rattle.board.proofs.Order.{passed-later, answered-first, in-order}
 use Rattle.requests.specs.Lists.{NoneOf}
 use Rattle.requests.specs.Without.{without5}
-use Rattle.requests.specs.Told.{isEarly, isInOrder, isTold, Told, silenced, TakenOut, Request5}
+use Rattle.requests.specs.Told.{isEarly, isWellFormed, isTold, Told, silenced, TakenOut, Request5}
 
 -- ---- 12 in the list of refusals
 
@@ -84,13 +84,13 @@ module _ (b : Board) (e : Event) where
       let no : (n : ℕ) → eqb 5 (code (classOf n)) ≡ false → eqb k n ≡ false = λ n d. other-kind k n Unknown class d in
       absurd (false≢true (rw (no 15 refl, no 16 refl, no 19 refl, no 20 refl) at h))
 
-  module _ (h : (isEarly b e && isInOrder e) ≡ true) where
+  module _ (h : (isEarly b e && isWellFormed e) ≡ true) where
     early : isBarred swe k ≡ true
-    early = and-eq-true-iff (isEarly b e) (isInOrder e) .0 h .0
+    early = and-eq-true-iff (isEarly b e) (isWellFormed e) .0 h .0
 
     sound : (isMissing (classOf k) (e .member) ≡ false) × (fits e ≡ true)
     sound =
-        let a = and-eq-true-iff (not (isMissing (classOf k) (e .member))) (fits e) .0 (and-eq-true-iff (isEarly b e) (isInOrder e) .0 h .1) in
+        let a = and-eq-true-iff (not (isMissing (classOf k) (e .member))) (fits e) .0 (and-eq-true-iff (isEarly b e) (isWellFormed e) .0 h .1) in
         (not-true _ (a .0), a .1)
 
     told-call : called b e ≡ refuse 12 b
@@ -99,7 +99,7 @@ module _ (b : Board) (e : Event) where
     told : respond b e ≡ refuse 12 b
     told = of-call b e (rw (ne-eqb k 0 (no-step early)) refl) ∙ told-call
 
-  only-early : respond b e .answer .result ≡ 12 → (isEarly b e && isInOrder e) ≡ true
+  only-early : respond b e .answer .result ≡ 12 → (isEarly b e && isWellFormed e) ≡ true
   unfolding refusals
   only-early h =
       let t = twelve _ _ _ _ _ _ _ _ (sym (answered-first b e) ∙ h) in
@@ -153,16 +153,16 @@ module _ (b : Board) (e : Event) where
 
 module _ (b : Board) (e : Event) where
   abbrev such : Bool
-  such = isEarly b e && isInOrder e
+  such = isEarly b e && isWellFormed e
 
   abbrev handed : Reply Board
   handed = respond (repairedBoard b) e
 
   told-handed : such ≡ true → handed ≡ refuse 12 (repairedBoard b)
-  told-handed h = told (repairedBoard b) e (ap (λ t. t && isInOrder e) (early-handed b e) ∙ h)
+  told-handed h = told (repairedBoard b) e (ap (λ t. t && isWellFormed e) (early-handed b e) ∙ h)
 
   only-handed : handed .answer .result ≡ 12 → such ≡ true
-  only-handed h = sym (ap (λ t. t && isInOrder e) (early-handed b e)) ∙ only-early (repairedBoard b) e h
+  only-handed h = sym (ap (λ t. t && isWellFormed e) (early-handed b e)) ∙ only-early (repairedBoard b) e h
 
   on-handed : Told b e
   on-handed = record {

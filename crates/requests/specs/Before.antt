@@ -25,13 +25,13 @@ abbrev pub writesStage : Event → Bool
 writesStage e = eqb (e .kind) 25 && (eqb (e .selector) 1 || eqb (e .selector) 2)
 
 -- a number without its bits 4 and 5
-abbrev pub without45 : ℕ → ℕ
-without45 n = n % 16 + 64 * (n / 64)
+abbrev pub lessStageBits : ℕ → ℕ
+lessStageBits n = n % 16 + 64 * (n / 64)
 
 -- an answer but for bits 4 and 5 of the value of call 29
 abbrev pub shown : Event → Answer → Answer
 shown e a =
-    cond (eqb (e .kind) 29) (record { result = a .result; value = without45 (a .value); timestamp = a .timestamp; reason = a .reason }) a
+    cond (eqb (e .kind) 29) (record { result = a .result; value = lessStageBits (a .value); timestamp = a .timestamp; reason = a .reason }) a
 
 -- ---- the boards
 

@@ -25,8 +25,8 @@ abbrev pub isEarly : Board → Event → Bool
 isEarly b e = isBarred (b .core .safety .writes) (e .kind)
 
 -- its member is there, and its fields fit
-abbrev pub isInOrder : Event → Bool
-isInOrder e = not (isMissing (classOf (e .kind)) (e .member)) && fits e
+abbrev pub isWellFormed : Event → Bool
+isWellFormed e = not (isMissing (classOf (e .kind)) (e .member)) && fits e
 
 -- 12
 abbrev pub isTold : Answer → Bool
@@ -34,7 +34,7 @@ isTold a = eqb (a .result) 12
 
 -- an event on a board handed in: 12 for such a call and for nothing else; then the other three numbers are 0, and the board is the one handed in
 pub record Told (b : Board) (e : Event) : Type 0 where
-  pub only : (applied b e .answer .result ≡ 12) ↔ ((isEarly b e && isInOrder e) ≡ true)
+  pub only : (applied b e .answer .result ≡ 12) ↔ ((isEarly b e && isWellFormed e) ≡ true)
   pub nothing : applied b e .answer .result ≡ 12 → applied b e ≡ reply b (number 12 0)
 
 -- ---- lists, beside the machine before
