@@ -4,7 +4,8 @@ use crate::event::{to_records, Answer, Event, RECORD};
 use crate::histories::history;
 use crate::loads;
 use crate::model::channel::{Channel, Mode};
-use crate::model::{self, Board, CHANNELS};
+use crate::model::filters::Filters;
+use crate::model::{self, Board, CHANNELS, PINS};
 use crate::proved;
 use crate::random::Random;
 use std::fmt::Display;
@@ -14,10 +15,13 @@ pub const HISTORIES: u64 = 600;
 const LENGTH: usize = 500;
 
 /// First boards that no short history reaches: shortly before a tick of every rate, and before the
-/// timestamp and the lost counts come to their ends.
+/// timestamp, the lost counts and the waits of the greatest filter come to their ends.
 const LATE_PRESCALERS: [u32; 6] = [499_999_900, 49_999_900, 4_999_900, 499_900, 49_900, 4_900];
 const LATE_TIMESTAMP: u32 = u32::MAX - 1;
 const LATE_LOST: u32 = u32::MAX - 2;
+const LATE_WAIT: u16 = u16::MAX - 2;
+/// The pins that have the late wait.
+const LATE_PINS: usize = 16;
 
 /// Compares a model on the loads and on the histories of `n` seeds. The answer is the number of
 /// events of the histories, or the first difference in words.
@@ -66,6 +70,10 @@ fn first_boards<M: Mode>(seed: u64) -> (Board<M>, proved::Board) {
             model.channels[c].queue.lost = LATE_LOST;
             proved.channels[c].lost = LATE_LOST;
         }
+        for pin in 0..LATE_PINS {
+            model.pins.filters.put(pin, u16::MAX, LATE_WAIT);
+        }
+        proved.pins.filters = view_filters(&model.pins.filters);
     }
     (model, proved)
 }
@@ -244,7 +252,12 @@ fn same_pins(m: &proved::Pins, p: &proved::Pins) -> Result<(), String> {
     same("pin safeenable", m.safeenable, p.safeenable)?;
     same("pin source0", m.source0, p.source0)?;
     same("pin source1", m.source1, p.source1)?;
-    same("pin source2", m.source2, p.source2)
+    same("pin source2", m.source2, p.source2)?;
+    for plane in 0..proved::PLANES {
+        same("filter", m.filters.filter[plane], p.filters.filter[plane])?;
+        same("wait", m.filters.wait[plane], p.filters.wait[plane])?;
+    }
+    Ok(())
 }
 
 fn same_core(m: &proved::Core, p: &proved::Core) -> Result<(), String> {
@@ -283,6 +296,7 @@ fn view<M: Mode>(b: &Board<M>) -> proved::Board {
             source0: source(0),
             source1: source(1),
             source2: source(2),
+            filters: view_filters(&b.pins.filters),
         },
         virtuals: proved::Virtuals {
             own: b.virtuals.own,
@@ -312,6 +326,21 @@ fn view<M: Mode>(b: &Board<M>) -> proved::Board {
             },
         },
     }
+}
+
+fn view_filters(f: &Filters) -> proved::Filters {
+    let mut view = proved::Filters {
+        filter: [0; proved::PLANES],
+        wait: [0; proved::PLANES],
+    };
+    for pin in 0..PINS as usize {
+        let (filter, wait) = f.of(pin);
+        for plane in 0..proved::PLANES {
+            view.filter[plane] |= u64::from(filter >> plane & 1) << pin;
+            view.wait[plane] |= u64::from(wait >> plane & 1) << pin;
+        }
+    }
+    view
 }
 
 fn view_channel<M: Mode>(c: &Channel<M>, extout: bool) -> proved::Channel {

@@ -39,6 +39,9 @@ impl History {
                 self.configure(channel);
             }
         }
+        if self.random.once_in(2) {
+            self.filters();
+        }
         while self.events.len() < self.length {
             match self.random.below(64) {
                 0..=1 => {
@@ -132,6 +135,26 @@ impl History {
         }
     }
 
+    /// A filter, mostly one that a few steps get through.
+    fn filter(&mut self) -> u32 {
+        let any = self.random.below(1 << 16);
+        self.random.of(&[0, 1, 1, 2, 2, 3, 5, 9, any, 65_535])
+    }
+
+    /// Filters for some of the pins, or the same for all.
+    fn filters(&mut self) {
+        let all = self.random.once_in(4);
+        let filter = self.filter();
+        for pin in 0..48 {
+            if all {
+                self.call(30, pin, filter);
+            } else if self.random.once_in(4) {
+                let filter = self.filter();
+                self.call(30, pin, filter);
+            }
+        }
+    }
+
     /// A write of a preload or compare register, mostly a value close to the counts.
     fn register(&mut self, channel: u8) -> Event {
         let v = self.value();
@@ -187,7 +210,7 @@ impl History {
 
     /// A call whose fields all fit; the state of the board may still refuse it.
     fn sound_call(&mut self) -> Event {
-        let kind = 1 + self.random.below(29) as u8;
+        let kind = 1 + self.random.below(30) as u8;
         let member = self.member(kind);
         let v = self.argument(kind);
         let selector = match kind {
@@ -205,7 +228,7 @@ impl History {
         let r = &mut self.random;
         match kind {
             1..=12 | 18..=21 => r.below(6) as u8,
-            13..=17 => {
+            13..=17 | 30 => {
                 let any = r.below(48) as u8;
                 r.of(&[0, 1, 2, 3, 47, any])
             }
@@ -223,6 +246,7 @@ impl History {
             14..=16 | 18..=20 | 23 | 26 => self.random.below(2),
             22 => self.random.below(8),
             25 => 1 + self.random.below(50),
+            30 => self.filter(),
             _ => 0,
         }
     }
@@ -250,9 +274,9 @@ impl History {
             7 => e.v = some as u32,
             8 => e.w = self.random.of(&[1, 1 << 48, 1 << 63]),
             9 => e.w |= 1 << self.random.below(64),
-            10 => e.kind = self.random.of(&[30, 31, 128, 255]),
+            10 => e.kind = self.random.of(&[31, 32, 128, 255]),
             _ => {
-                e.kind = some as u8 % 32;
+                e.kind = some as u8 % 33;
                 e.member = (some >> 8) as u8 % 50;
                 e.selector = (some >> 16) as u8 % 4;
                 e.spare = (some >> 24) as u8 % 2;
@@ -272,6 +296,7 @@ impl History {
             14..=16 | 18..=20 | 23 | 26 => 2,
             22 => 8,
             25 => 0,
+            30 => 1 << 16,
             _ => 1,
         };
         self.random.of(&[smallest, smallest, smallest | 1 << 31])

@@ -1,6 +1,6 @@
 //! The loads that are timed: a first board and a list of events for each.
 use crate::event::Event;
-use crate::model::{self, Plain, CHANNELS};
+use crate::model::{self, Plain, CHANNELS, PINS};
 use crate::random::Random;
 
 /// The events of a load.
@@ -16,12 +16,13 @@ pub struct Load {
     pub events: Vec<Event>,
 }
 
-pub const NAMES: [&str; 5] = ["busy", "idle", "overflow", "calls", "quiet"];
+pub const NAMES: [&str; 6] = ["busy", "filters", "idle", "overflow", "calls", "quiet"];
 
 /// The load of that name.
 pub fn load(name: &str) -> Option<Load> {
     match name {
         "busy" => Some(busy(LENGTH)),
+        "filters" => Some(filters()),
         "idle" => Some(idle()),
         "overflow" => Some(overflow()),
         "calls" => Some(calls()),
@@ -232,6 +233,13 @@ fn busy_call(board: &Board, random: &mut Random, i: usize) -> Event {
     }
 }
 
+/// The busy load with a filter on each pin, so that most changes of a level wait.
+fn filters() -> Load {
+    let Load { mut setup, events } = busy(LENGTH);
+    setup.extend((0..PINS).map(|pin| Event::call(30, pin, 3)));
+    Load { setup, events }
+}
+
 /// Steps with changing lines on a board at reset.
 fn idle() -> Load {
     let mut lines = Lines::new();
@@ -303,10 +311,10 @@ fn calls() -> Load {
 }
 
 fn any_call(random: &mut Random) -> Event {
-    let kind = 1 + random.below(29) as u8;
+    let kind = 1 + random.below(30) as u8;
     let member = match kind {
         1..=12 | 18..=21 => random.below(6),
-        13..=17 => random.below(48),
+        13..=17 | 30 => random.below(48),
         _ => 0,
     };
     let v = match kind {
@@ -318,6 +326,7 @@ fn any_call(random: &mut Random) -> Event {
         14..=16 | 18..=20 | 23 | 26 => random.below(2),
         22 => random.below(8),
         25 => 1 + random.below(50_000),
+        30 => random.below(1 << 16),
         _ => 0,
     };
     let bad = random.once_in(64) as u8;

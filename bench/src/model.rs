@@ -2,6 +2,7 @@
 //! board in place. It starts from reset; boards handed in are not repaired. There are two of it,
 //! plain and tuned, which differ in the mode and the step of the channels and share the rest.
 pub mod channel;
+pub mod filters;
 mod plain;
 mod queue;
 mod tuned;
@@ -12,10 +13,11 @@ pub use tuned::Tuned;
 
 use crate::event::{Answer, Event, RECORD};
 use channel::{Channel, Mode, Scene, NO_ROUTE, SOFT};
+use filters::Filters;
 use word::Word;
 
 pub const CHANNELS: usize = 6;
-const PINS: u8 = 48;
+pub const PINS: u8 = 48;
 const VIRTUALS: u8 = 6;
 const PRESCALE: u32 = 500_000_000;
 /// The steps of a microsecond, after which the timestamp goes up.
@@ -48,6 +50,7 @@ pub struct Pins {
     pub safe_enable: u64,
     /// The pins of each source: the own register, then the channels.
     pub sources: [u64; CHANNELS + 1],
+    pub filters: Filters,
 }
 
 impl Pins {
@@ -61,7 +64,13 @@ impl Pins {
             safe_data: 0,
             safe_enable: ALL_PINS,
             sources,
+            filters: Filters::reset(),
         }
+    }
+
+    /// The filtered levels, by the external levels `w`.
+    fn sense(&mut self, w: u64) {
+        self.level = self.filters.step(w | self.driven, self.level);
     }
 
     fn drive(&mut self, extouts: u32, safemode: bool) {
@@ -212,7 +221,7 @@ impl<M: Mode> Board<M> {
             }
             0 => refused(3),
             1..=12 => self.on_channel(e),
-            13..=17 => self.on_pin(e),
+            13..=17 | 30 => self.on_pin(e),
             18..=21 => self.on_virtual(e),
             22..=29 => self.on_board(e),
             _ => refused(2),
@@ -222,7 +231,7 @@ impl<M: Mode> Board<M> {
     /// A step with the channels' lines `v` and the external pin levels `w`.
     pub fn step(&mut self, v: u32, w: u64) {
         let ticks = self.tick();
-        self.pins.level = w | self.pins.driven;
+        self.pins.sense(w);
         self.watchdog.step();
         self.safemode |= self.is_triggered();
         let scene = Scene {
@@ -306,7 +315,7 @@ impl<M: Mode> Board<M> {
             15 => put(&mut pins.safe_data, e.member, e.v),
             16 => put(&mut pins.safe_enable, e.member, e.v),
             17 => return tell((pins.level >> e.member) as u32 & 1),
-            _ => {}
+            _ => pins.filters.put(e.member as usize, e.v as u16, 0),
         }
         ACCEPTED
     }
@@ -417,6 +426,7 @@ fn fits(e: &Event) -> bool {
         14..=16 | 18..=20 | 23 | 26 => e.v < 2,
         22 => e.v < 8,
         25 => e.v != 0,
+        30 => e.v <= u16::MAX.into(),
         _ => e.v == 0,
     }
 }

@@ -2,6 +2,9 @@
 //! planner the list.
 use crate::event::{Answer, Event};
 
+/// The bits of a filter.
+pub const PLANES: usize = 16;
+
 #[repr(C)]
 #[derive(Clone, Copy)]
 pub struct Channel {
@@ -35,6 +38,15 @@ pub struct Pins {
     pub source0: u64,
     pub source1: u64,
     pub source2: u64,
+    pub filters: Filters,
+}
+
+/// Bit p of plane j is bit j of the number of pin p.
+#[repr(C)]
+#[derive(Clone, Copy)]
+pub struct Filters {
+    pub filter: [u64; PLANES],
+    pub wait: [u64; PLANES],
 }
 
 #[repr(C)]
@@ -86,7 +98,7 @@ pub struct Board {
     pub core: Core,
 }
 
-const _: () = assert!(std::mem::size_of::<Board>() == 1624);
+const _: () = assert!(std::mem::size_of::<Board>() == 1880);
 
 /// What one event leaves.
 #[repr(C)]

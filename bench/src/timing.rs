@@ -9,9 +9,9 @@ use std::hint::black_box;
 use std::time::{Duration, Instant};
 
 /// The names of the cases: the loads as lists, and the busy one event by event.
-pub const CASES: [&str; 5] = ["busy", "idle", "overflow", "calls", SINGLE];
+pub const CASES: [&str; 6] = ["busy", "filters", "idle", "overflow", "calls", SINGLE];
 /// The cases that have steps.
-pub const STEP_CASES: [&str; 4] = ["busy", "idle", "overflow", SINGLE];
+pub const STEP_CASES: [&str; 5] = ["busy", "filters", "idle", "overflow", SINGLE];
 pub const SINGLE: &str = "single";
 
 /// How long a round takes.

@@ -3,6 +3,7 @@
 use mathlib.Core.Path.{_≡_, refl, sym, ap, _∙_}
 use mathlib.Core.Bool.{Bool, true, false, cond, not, and-eq-true-iff}
 use mathlib.Core.List.{List}
+use mathlib.Core.Logic.{⊎-elim}
 use Prim.Native.Nat.{ℕ, _≤_, _<_}
 use native.Mathlib.Omega.{arith}
 use lib.Dec.{eqb, ltb}
@@ -10,7 +11,7 @@ use lib.ListN.{drop}
 use borrow.Author.Tests.{ne-eqb, eqb-true, lt-ltb, le-ltb}
 use Rattle.words.proofs.Cases.{tested, either}
 use Rattle.counter.specs.declared.Channel.{Channel}
-use Rattle.ports.specs.Pins.{pinAt}
+use Rattle.ports.specs.Pins.{WholePin, wholeAt}
 use Rattle.ports.specs.Virtuals.{virtualAt}
 use Rattle.ports.specs.declared.Pin.{Pin}
 use Rattle.ports.specs.declared.Virtual.{Virtual}
@@ -18,7 +19,7 @@ use Rattle.control.specs.declared.Core.{Core}
 use Rattle.calls.specs.Reply.{Reply}
 use Rattle.calls.specs.Fields.{isStep, stepFits}
 use Rattle.calls.specs.ChannelCalls.{modeWrite, routeWrite, snapshotRead, channelCall}
-use Rattle.calls.specs.PinCalls.{pinCall}
+use Rattle.calls.specs.PinCalls.{pinCall, wholeCall}
 use Rattle.calls.specs.VirtualCalls.{virtualCall}
 use Rattle.calls.specs.BoardCalls.{intervalWrite, boardCall}
 use Rattle.calls.specs.declared.Event.{Event}
@@ -89,12 +90,13 @@ module _ (b : Board) (e : Event) where
       tested P (eqb k 11) (λ h. rw (is 11 h) (result-of (ltb 0 (c .lost)) _ _ ∙ ap (cond (ltb 0 (c .lost)) 6) (result-of (eqb (c .held) 0) _ _))) (λ h₁₁.
       sym (none-later h₁ h₄ h₁₁ (other-kind k 25 OnChannel class refl)))))))))))))
 
-  pin-later : classOf k ≡ OnPin → pinCall e (pinAt (b .pins) (e .member)) .answer .result ≡ first later
-  unfolding pinCall
+  pin-later : classOf k ≡ OnPin → wholeCall e (wholeAt (b .pins) (e .member)) .answer .result ≡ first later
+  unfolding wholeCall pinCall
   pin-later class =
       let none = no-later OnPin class refl refl in
       let P : Reply Pin → Type 0 = λ r. r .answer .result ≡ first later in
-      either P (eqb k 13) none (either P (eqb k 14) none (either P (eqb k 15) none (either P (eqb k 16) none none)))
+      either (λ (r : Reply WholePin). r .answer .result ≡ first later) (eqb k 30) none
+      (either P (eqb k 13) none (either P (eqb k 14) none (either P (eqb k 15) none (either P (eqb k 16) none none))))
 
   virtual-later : classOf k ≡ OnVirtual → virtualCall e (virtualAt (b .virtuals) (e .member)) .answer .result ≡ first later
   unfolding virtualCall
@@ -142,17 +144,17 @@ module _ (b : Board) (e : Event) where
       let unfit : stepFits e ≡ false = rw z at s in
       rw (z, unfit)
 
-  unknown : 30 ≤ k → 2 ≡ first (refusals b e)
+  unknown : 31 ≤ k → 2 ≡ first (refusals b e)
   unfolding refusals first
-  unknown h = rw (lt-ltb 29 k (omega arith))
+  unknown h = rw (lt-ltb 30 k (omega arith))
 
   -- ---- the checks
 
-  module _ (C : Class) (n : ℕ) (class : classOf k ≡ C) (low : 1 ≤ k) (high : k < 30) (missing : isMissing C (e .member) ≡ not (ltb (e .member) n)) where
+  module _ (C : Class) (n : ℕ) (class : classOf k ≡ C) (low : 1 ≤ k) (high : k < 31) (missing : isMissing C (e .member) ≡ not (ltb (e .member) n)) where
     checked-first : (r : Reply Board) → r .answer .result ≡ first later → checked (refusalIn n swe e) b r .answer .result ≡ first (refusals b e)
     unfolding refusals first
     checked-first r h =
-        let known : ltb 29 k ≡ false = le-ltb 29 k (omega arith) in
+        let known : ltb 30 k ≡ false = le-ltb 30 k (omega arith) in
         let call : eqb k 0 ≡ false = ne-eqb k 0 (λ z. omega arith) in
         by-checks n swe e (λ m. checked m b r .answer .result ≡ first (refusals b e))
         (λ t. rw (known, class, missing, t))
@@ -168,13 +170,13 @@ module _ (b : Board) (e : Event) where
       checked-first OnChannel 6 class (r .0) (omega (arith, r .1)) refl _ (passed-later OnChannel class)
   by-class OnPin class s =
       let r = kinds-of k OnPin class in
-      checked-first OnPin 48 class (omega (arith, r .0)) (omega (arith, r .1)) refl _ (passed-later OnPin class)
+      checked-first OnPin 48 class (⊎-elim (λ i. omega (arith, i .0)) (λ z. omega (arith, z)) r) (⊎-elim (λ i. omega (arith, i .1)) (λ z. omega (arith, z)) r) refl _ (passed-later OnPin class)
   by-class OnVirtual class s =
       let r = kinds-of k OnVirtual class in
       checked-first OnVirtual 6 class (omega (arith, r .0)) (omega (arith, r .1)) refl _ (passed-later OnVirtual class)
   by-class OnBoard class s =
       let r = kinds-of k OnBoard class in
-      checked-first OnBoard 1 class (omega (arith, r .0)) (r .1) refl _ (passed-later OnBoard class)
+      checked-first OnBoard 1 class (omega (arith, r .0)) (omega (arith, r .1)) refl _ (passed-later OnBoard class)
   by-class Unknown class s = unknown (kinds-of k Unknown class)
 
   pub answered-first : respond b e .answer .result ≡ first (refusals b e)

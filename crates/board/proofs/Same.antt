@@ -9,6 +9,7 @@ use Rattle.words.proofs.Every.{every-at, every-by}
 use Rattle.words.proofs.Tables.{tab-same, length-tab, getD-tab}
 use Rattle.counter.specs.Repair.{channelInRange, repaired, noChannel}
 use Rattle.counter.proofs.Same.{ChannelInRange, channel-fields, channel-whole, channel-same, channel-repaired}
+use Rattle.ports.specs.Pins.{pinsInRange}
 use Rattle.ports.proofs.Same.{PinsInRange, pins-fields, pins-whole, pins-same, pins-repaired, VirtualsInRange, virtuals-fields, virtuals-whole, virtuals-same, virtuals-repaired}
 use Rattle.control.proofs.Same.{CoreInRange, core-fields, core-whole, core-same, core-repaired}
 use Rattle.board.specs.Inputs.{channelIn}
@@ -37,6 +38,9 @@ module _ (b : Board) where
         virtuals = virtuals-fields (b .virtuals) (h₃ .1);
         core = core-fields (b .core) (h₄ .1);
       }
+
+  pub board-pins : inRange b ≡ true → pinsInRange (b .pins) ≡ true
+  board-pins h = pins-whole (b .pins) (board-fields h .pins)
 
   pub board-whole : InRange b → inRange b ≡ true
   unfolding inRange

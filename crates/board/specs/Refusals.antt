@@ -1,5 +1,5 @@
--- Document 01, "Results above 0", as request 5 amends it: the refusals of an event in one list, in their order, each with what it is given for. Every
--- event is answered with the first that applies.
+-- Document 01, "Results above 0", as requests 5 and 6 amend it: the refusals of an event in one list, in their order, each with what it is given for.
+-- Every event is answered with the first that applies.
 -- Assumes nothing.
 use mathlib.Core.Path.{_≡_}
 use mathlib.Core.Bool.{Bool, false, cond, not, _&&_, _||_}
@@ -37,7 +37,7 @@ refusals b e =
     let k : ℕ = e .kind in
     let c : Channel = channelIn (b .channels) (e .member) in
     -- an unknown kind
-    refusal 2 (ltb 29 k)
+    refusal 2 (ltb 30 k)
     -- no such channel, pin, virtual output or board
     ∷ refusal 1 (isMissing (classOf k) (e .member))
     -- a field that does not fit

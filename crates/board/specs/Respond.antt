@@ -28,7 +28,7 @@ use Rattle.board.specs.declared.Outcome.{Outcome}
 
 abbrev pub classOf : ℕ → Class
 classOf k =
-    cond (eqb k 0) Step (cond (ltb k 13) OnChannel (cond (ltb k 18) OnPin (cond (ltb k 22) OnVirtual (cond (ltb k 30) OnBoard Unknown))))
+    cond (eqb k 0) Step (cond (ltb k 13) OnChannel (cond (ltb k 18 || eqb k 30) OnPin (cond (ltb k 22) OnVirtual (cond (ltb k 30) OnBoard Unknown))))
 
 -- ---- a board with one of its parts changed
 

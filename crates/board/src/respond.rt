@@ -1,8 +1,11 @@
 // Every event but an accepted step, on a board whose fields are in their ranges.
 ghost use mathlib.Core.Path.{_≡_};
+ghost use mathlib.Core.Bool.{true};
 ghost use Prim.Native.Nat.{_<_};
+ghost use Rattle.ports.specs.Pins.{pinsInRange};
 ghost use Rattle.calls.specs.Reply.{refuse};
 ghost use Rattle.board.specs.Respond.{classOf, isSafeWrite, refusalIn, refusalBy, passedBy, called, outcome};
+ghost use Rattle.board.specs.Handed.{inRange};
 use crate::Board;
 use crate::Class;
 use crate::Outcome;
@@ -45,9 +48,10 @@ impl Board {
         }
     }
 
-    // Calls 13 to 17, past the checks.
+    // Calls 13 to 17 and 30, past the checks.
     fn pin_event(mut self, e: Event) -> Outcome
         requires { ⌜ e .member < 48 ⌝ }
+        requires { ⌜ pinsInRange (self .pins) ≡ true ⌝ }
         ensures { λ r. ⌜ r ≡ outcome (passedBy Class.OnPin self e) ⌝ }
     {
         let pins = self.pins;
@@ -94,6 +98,7 @@ impl Board {
 
     // Every event but an accepted step.
     pub(crate) fn call(self, e: Event) -> Outcome
+        requires { ⌜ inRange self ≡ true ⌝ }
         ensures { λ r. ⌜ r ≡ outcome (called self e) ⌝ }
     {
         let class = class_of(e.kind);
@@ -117,7 +122,7 @@ pub fn class_of(kind: u8) -> Class
     match kind {
         0 => Class::Step,
         1..=12 => Class::OnChannel,
-        13..=17 => Class::OnPin,
+        13..=17 | 30 => Class::OnPin,
         18..=21 => Class::OnVirtual,
         22..=29 => Class::OnBoard,
         _ => Class::Unknown,

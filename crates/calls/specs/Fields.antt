@@ -34,6 +34,8 @@ limits =
     ∷ 2 ∷ 2 ∷ 2 ∷ 1
     -- 22 control, 23 SWE, 24 clear safemode, 25 interval, 26 watchdog enable, 27 kick, 28 timestamp, 29 status
     ∷ 8 ∷ 2 ∷ 1 ∷ 2 ^ 32 ∷ 2 ∷ 1 ∷ 1 ∷ 1
+    -- 30 filter write
+    ∷ 2 ^ 16
     ∷ []
 
 unfoldable pub limit : ℕ → ℕ

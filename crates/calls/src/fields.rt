@@ -3,8 +3,8 @@ ghost use mathlib.Core.Path.{_≡_};
 ghost use Rattle.calls.specs.Fields.{stepFits, isStep, limit, selectors, fits};
 use crate::Event;
 
-// The kinds, 0 to 29.
-pub const KINDS: u8 = 30;
+// The kinds, 0 to 30.
+pub const KINDS: u8 = 31;
 
 // V of a step is below this, three lines of six channels.
 pub const LINES: u32 = 1 << 18;
@@ -44,6 +44,7 @@ const LIMITS: [u64; KINDS as usize] = [
     1, // 27 kick
     1, // 28 timestamp
     1, // 29 status
+    ports::FILTERS as u64, // 30 filter write
 ];
 
 // The limit of V, 0 for an unknown kind.

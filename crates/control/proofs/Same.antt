@@ -2,16 +2,9 @@
 -- Assumes nothing.
 use mathlib.Core.Path.{_≡_, refl}
 use mathlib.Core.Bool.{true, and-eq-true-iff}
-use Prim.Native.Nat.{ℕ, _<_}
-use lib.ListN.{length}
-use borrow.Author.Tests.{eqb-true, eq-eqb}
-use Rattle.words.specs.Range.{orReset}
-use Rattle.words.specs.Table.{tab}
-use Rattle.words.proofs.Cases.{taken}
-use Rattle.words.proofs.Every.{every-at, every-by, reset-good}
-use Rattle.words.proofs.Tables.{tab-same, length-tab, getD-tab}
+use Rattle.words.proofs.Every.{reset-good, AllGood, good-each, good-all, good-same, good-reset}
 use Rattle.control.specs.Clock.{resetClock, isPrescaler, repairedClock}
-use Rattle.control.specs.Watchdog.{intervalOf, resetInterval, resetWatchdog, isInterval, isExpired, watchdogInRange, repairedWatchdog}
+use Rattle.control.specs.Watchdog.{resetInterval, resetWatchdog, isInterval, isExpired, watchdogInRange, repairedWatchdog}
 use Rattle.control.specs.Safety.{resetSafety, isControl, repairedSafety}
 use Rattle.control.specs.Whole.{coreInRange, repairedCore}
 use Rattle.control.specs.declared.Watchdog.{Watchdog}
@@ -20,34 +13,28 @@ use Rattle.control.specs.declared.Core.{Core}
 -- ---- the watchdog
 
 pub record WatchdogInRange (d : Watchdog) : Type 0 where
-  pub places : length (d .intervals) ≡ 3
-  pub intervals : (k : ℕ) → k < 3 → isInterval (intervalOf d k) ≡ true
+  pub intervals : AllGood isInterval 3 (d .intervals)
   pub expired : isExpired (d .expired) ≡ true
 
 module _ (d : Watchdog) where
   watchdog-fields : watchdogInRange d ≡ true → WatchdogInRange d
   unfolding watchdogInRange
   watchdog-fields h =
-      let h₂ = and-eq-true-iff _ _ .0 h in
-      let h₁ = and-eq-true-iff _ _ .0 (h₂ .0) in
-      record { places = eqb-true _ 3 (h₁ .0); intervals = every-at 3 _ (h₁ .1); expired = h₂ .1 }
+      let both = and-eq-true-iff _ _ .0 h in
+      record { intervals = good-each (both .0); expired = both .1 }
 
   watchdog-whole : WatchdogInRange d → watchdogInRange d ≡ true
   unfolding watchdogInRange
-  watchdog-whole r = rw (eq-eqb (length (d .intervals)) 3 (r .places), every-by 3 _ (r .intervals), r .expired)
-
-  intervals-same : WatchdogInRange d → tab 3 (λ k. orReset isInterval resetInterval (intervalOf d k)) ≡ d .intervals
-  intervals-same r = tab-same 3 _ (d .intervals) 0 (r .places) (λ k h. taken (intervalOf d k) resetInterval (r .intervals k h))
+  watchdog-whole r = rw (good-all (r .intervals), r .expired)
 
   watchdog-same : WatchdogInRange d → repairedWatchdog d ≡ d
   unfolding repairedWatchdog
-  watchdog-same r = rw (intervals-same r, r .expired)
+  watchdog-same r = rw (good-same resetInterval (r .intervals), r .expired)
 
   watchdog-repaired : WatchdogInRange (repairedWatchdog d)
   unfolding repairedWatchdog
   watchdog-repaired = record {
-    places = length-tab 3 _;
-    intervals = λ k h. rw getD-tab (reset-good isInterval resetInterval refl (intervalOf d k));
+    intervals = good-reset isInterval resetInterval 3 (d .intervals) refl;
     expired = reset-good isExpired (resetWatchdog .expired) refl (d .expired);
   }
 

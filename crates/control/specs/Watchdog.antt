@@ -4,10 +4,9 @@ use mathlib.Core.Bool.{Bool, true, false, cond, _&&_, _||_}
 use mathlib.Core.List.{List}
 use Prim.Native.Nat.{ℕ, _+_, _-_}
 use lib.Dec.{eqb, ltb}
-use lib.ListN.{length, getD, set, replicate}
-use Rattle.words.specs.Bits.{every}
+use lib.ListN.{getD, set, replicate}
 use Rattle.words.specs.Table.{tab}
-use Rattle.words.specs.Range.{orReset}
+use Rattle.words.specs.Range.{orReset, allGood, allOrReset}
 use Rattle.control.specs.declared.Watchdog.{Watchdog}
 
 -- ---- a stage
@@ -90,13 +89,13 @@ isExpired n = ltb n 4
 
 -- three intervals, and every field in its range
 unfoldable pub watchdogInRange : Watchdog → Bool
-watchdogInRange d = eqb (length (d .intervals)) 3 && every 3 (λ k. isInterval (intervalOf d k)) && isExpired (d .expired)
+watchdogInRange d = allGood isInterval 3 (d .intervals) && isExpired (d .expired)
 
 -- each field outside its range as at reset; every rest is in range
 unfoldable pub repairedWatchdog : Watchdog → Watchdog
 repairedWatchdog d =
     record {
-      intervals = tab 3 (λ k. orReset isInterval resetInterval (intervalOf d k));
+      intervals = allOrReset isInterval resetInterval 3 (d .intervals);
       rests = d .rests;
       expired = orReset isExpired (resetWatchdog .expired) (d .expired);
       enabled = d .enabled;

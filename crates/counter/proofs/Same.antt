@@ -2,15 +2,9 @@
 -- Assumes nothing.
 use mathlib.Core.Path.{_≡_, refl}
 use mathlib.Core.Bool.{true, and-eq-true-iff}
-use mathlib.Core.List.{List}
-use Prim.Native.Nat.{ℕ, _<_}
-use lib.ListN.{length, getD}
-use borrow.Author.Tests.{eqb-true, eq-eqb}
-use Rattle.words.proofs.Cases.{taken}
-use Rattle.words.proofs.Every.{every-at, every-by, reset-good}
-use Rattle.words.proofs.Tables.{tab-same, length-tab, getD-tab}
+use Rattle.words.proofs.Every.{reset-good, AllGood, good-each, good-all, good-same, good-reset}
 use Rattle.counter.specs.Mode.{goodMode}
-use Rattle.counter.specs.Repair.{resetChannel, isRoute, isReasons, isKept, isCarry, isHeld, areReasons, channelInRange, inReasons, repaired}
+use Rattle.counter.specs.Repair.{resetChannel, isRoute, isReasons, isKept, isCarry, isHeld, channelInRange, repaired}
 use Rattle.counter.specs.declared.Channel.{Channel}
 
 pub record ChannelInRange (c : Channel) : Type 0 where
@@ -20,12 +14,11 @@ pub record ChannelInRange (c : Channel) : Type 0 where
   pub kept : isKept (c .kept) ≡ true
   pub held : isHeld (c .held) ≡ true
   pub carry : isCarry (c .carry) ≡ true
-  pub places : length (c .reasons) ≡ 16
-  pub reasons : (i : ℕ) → i < 16 → isReasons (getD (c .reasons) i 0) ≡ true
+  pub reasons : AllGood isReasons 16 (c .reasons)
 
 module _ (c : Channel) where
   pub channel-fields : channelInRange c ≡ true → ChannelInRange c
-  unfolding channelInRange areReasons
+  unfolding channelInRange
   channel-fields h =
       let h₆ = and-eq-true-iff _ _ .0 h in
       let h₅ = and-eq-true-iff _ _ .0 (h₆ .0) in
@@ -33,7 +26,6 @@ module _ (c : Channel) where
       let h₃ = and-eq-true-iff _ _ .0 (h₄ .0) in
       let h₂ = and-eq-true-iff _ _ .0 (h₃ .0) in
       let h₁ = and-eq-true-iff _ _ .0 (h₂ .0) in
-      let l = and-eq-true-iff _ _ .0 (h₆ .1) in
       record {
         mode = h₁ .0;
         route = h₁ .1;
@@ -41,29 +33,19 @@ module _ (c : Channel) where
         kept = h₃ .1;
         held = h₄ .1;
         carry = h₅ .1;
-        places = eqb-true _ 16 (l .0);
-        reasons = every-at 16 _ (l .1);
+        reasons = good-each (h₆ .1);
       }
 
   pub channel-whole : ChannelInRange c → channelInRange c ≡ true
-  unfolding channelInRange areReasons
-  channel-whole r =
-      rw (r .mode, r .route, r .mask, r .kept, r .held, r .carry, eq-eqb (length (c .reasons)) 16 (r .places)) (every-by 16 _ (r .reasons))
-
-  reasons-same : ChannelInRange c → inReasons (c .reasons) ≡ c .reasons
-  unfolding inReasons
-  reasons-same r = tab-same 16 _ (c .reasons) 0 (r .places) (λ i k. taken (getD (c .reasons) i 0) 0 (r .reasons i k))
+  unfolding channelInRange
+  channel-whole r = rw (r .mode, r .route, r .mask, r .kept, r .held, r .carry, good-all (r .reasons))
 
   pub channel-same : channelInRange c ≡ true → repaired c ≡ c
   unfolding repaired
-  channel-same h = let r = channel-fields h in rw (r .mode, r .route, r .mask, r .kept, r .held, r .carry, reasons-same r)
-
-reasons-repaired : (l : List ℕ) (i : ℕ) → i < 16 → isReasons (getD (inReasons l) i 0) ≡ true
-unfolding inReasons
-reasons-repaired l i k = rw getD-tab (reset-good isReasons 0 refl (getD l i 0))
+  channel-same h = let r = channel-fields h in rw (r .mode, r .route, r .mask, r .kept, r .held, r .carry, good-same 0 (r .reasons))
 
 pub channel-repaired : (c : Channel) → channelInRange (repaired c) ≡ true
-unfolding repaired resetChannel inReasons
+unfolding repaired resetChannel
 channel-repaired c = channel-whole (repaired c) (record {
   mode = reset-good goodMode 0 refl (c .mode);
   route = reset-good isRoute 54 refl (c .route);
@@ -71,6 +53,5 @@ channel-repaired c = channel-whole (repaired c) (record {
   kept = reset-good isKept 0 refl (c .kept);
   held = reset-good isHeld 0 refl (c .held);
   carry = reset-good isCarry _ refl (c .carry);
-  places = length-tab 16 _;
-  reasons = reasons-repaired (c .reasons);
+  reasons = good-reset isReasons 0 16 (c .reasons) refl;
 })

@@ -1,15 +1,13 @@
 -- Document 01, "In a board handed in": the range of each field of a channel, and the value that counts outside it.
 -- Assumes nothing.
 use mathlib.Core.Bool.{Bool, false, not, _&&_, _||_}
-use mathlib.Core.List.{List, []}
+use mathlib.Core.List.{[]}
 use Prim.Native.Nat.{ℕ}
-use lib.Dec.{eqb, ltb}
-use lib.ListN.{length, getD, replicate}
+use lib.Dec.{ltb}
+use lib.ListN.{replicate}
 use lib.Signed.{ltZ}
 use lib.IntN.{ℤ, pos, negsuc}
-use Rattle.words.specs.Bits.{every}
-use Rattle.words.specs.Range.{orReset}
-use Rattle.words.specs.Table.{tab}
+use Rattle.words.specs.Range.{orReset, allGood, allOrReset}
 use Rattle.counter.specs.Mode.{goodMode}
 use Rattle.counter.specs.declared.Channel.{Channel}
 
@@ -56,11 +54,7 @@ isCarry d = not (ltZ d (negsuc 0) || ltZ (pos 1) d)
 abbrev pub isHeld : ℕ → Bool
 isHeld n = ltb n 17
 
--- reasons in all sixteen places of the queue
-unfoldable pub areReasons : List ℕ → Bool
-areReasons l = eqb (length l) 16 && every 16 (λ i. isReasons (getD l i 0))
-
--- every field is in its range
+-- every field is in its range, the reasons in each of the sixteen places of the queue too
 unfoldable pub channelInRange : Channel → Bool
 channelInRange c =
     goodMode (c .mode)
@@ -69,11 +63,7 @@ channelInRange c =
     && isKept (c .kept)
     && isHeld (c .held)
     && isCarry (c .carry)
-    && areReasons (c .reasons)
-
--- each place of the queue by itself
-unfoldable pub inReasons : List ℕ → List ℕ
-inReasons l = tab 16 (λ i. orReset isReasons 0 (getD l i 0))
+    && allGood isReasons 16 (c .reasons)
 
 -- a channel handed in
 unfoldable pub repaired : Channel → Channel
@@ -93,7 +83,7 @@ repaired c =
       carry = orReset isCarry (resetChannel .carry) (c .carry);
       counts = c .counts;
       timestamps = c .timestamps;
-      reasons = inReasons (c .reasons);
+      reasons = allOrReset isReasons 0 16 (c .reasons);
       held = orReset isHeld (resetChannel .held) (c .held);
       lost = c .lost;
     }

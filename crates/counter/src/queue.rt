@@ -3,8 +3,9 @@ ghost use mathlib.Core.Path.{_≡_};
 ghost use mathlib.Core.Bool.{cond};
 ghost use Prim.Native.Nat.{_<_};
 ghost use lib.ListN.{set};
+ghost use Rattle.words.specs.Range.{allGood, allOrReset};
 ghost use Rattle.counter.specs.Queue.{shifted};
-ghost use Rattle.counter.specs.Repair.{areReasons, inReasons};
+ghost use Rattle.counter.specs.Repair.{isReasons};
 use crate::QUEUE;
 use crate::REASONS;
 
@@ -68,7 +69,7 @@ pub fn shift(a: [u32; QUEUE]) -> [u32; QUEUE]
 
 // Every place of the reasons' array is in its range.
 pub fn are_reasons(a: [u32; QUEUE]) -> bool
-    ensures { λ r. ⌜ r ≡ areReasons a ⌝ }
+    ensures { λ r. ⌜ r ≡ allGood isReasons 16 a ⌝ }
 {
     let mut sound = true;
     let mut i: usize = 0;
@@ -81,7 +82,7 @@ pub fn are_reasons(a: [u32; QUEUE]) -> bool
 
 // Every place of the reasons' array in its range.
 pub fn in_reasons(a: [u32; QUEUE]) -> [u32; QUEUE]
-    ensures { λ r. ⌜ r ≡ inReasons a ⌝ }
+    ensures { λ r. ⌜ r ≡ allOrReset isReasons 0 16 a ⌝ }
 {
     let mut b = a;
     let mut i: usize = 0;

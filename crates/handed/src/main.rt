@@ -6,6 +6,7 @@ mod lists;
 mod ranges;
 mod show;
 mod ticks;
+mod waits;
 
 use board::Board;
 use calls::Event;
@@ -14,6 +15,7 @@ use control::Core;
 use control::Safety;
 use control::Watchdog;
 use counter::Channel;
+use filters::Filters;
 use ports::Pins;
 use ports::Virtuals;
 use show::show;
@@ -81,6 +83,10 @@ fn broken() -> Board {
             source0: EVERY,
             source1: EVERY,
             source2: EVERY,
+            filters: Filters {
+                filter: [EVERY; filters::PLANES],
+                wait: [EVERY; filters::PLANES],
+            },
         },
         virtuals: Virtuals {
             own: EVERY,
@@ -176,6 +182,10 @@ fn show_refused() {
         board::apply(broken(), event(20, 5, 0)),
     );
     show(
+        b"filter write of 65,536",
+        board::apply(broken(), event(30, 5, 65536)),
+    );
+    show(
         b"snapshot read, captures lost",
         board::apply(broken(), event(11, 0, 0)),
     );
@@ -196,6 +206,10 @@ fn show_accepted() {
     show(
         b"safe write of a virtual output with SWE 1",
         board::apply(broken_with_swe(), event(20, 5, 0)),
+    );
+    show(
+        b"filter write of 5",
+        board::apply(broken(), event(30, 47, 5)),
     );
     show(b"status", board::apply(broken(), event(29, 0, 0)));
     show(b"step", board::apply(broken(), event(0, 0, 0)));
@@ -254,5 +268,6 @@ fn main() {
     ranges::show_ranges();
     show_points();
     show_stages();
+    waits::show_waits();
     ticks::show_ticks();
 }

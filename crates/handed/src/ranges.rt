@@ -11,6 +11,7 @@ use board::Outcome;
 use control::Core;
 use control::Watchdog;
 use counter::Channel;
+use filters::Filters;
 use ports::Pins;
 use ports::Virtuals;
 
@@ -148,6 +149,7 @@ fn greatest_pins() -> Pins {
         source0: 0,
         source1: PIN_WORDS - 1,
         source2: PIN_WORDS - 1,
+        filters: filters::reset(),
     }
 }
 
@@ -192,7 +194,45 @@ fn show_sources() {
     of_pins(b"third plane 2^48 + 9", x);
 }
 
-// Outputs likewise.
+// Pins at reset with these filters.
+fn of_filters(name: &[u8], f: Filters) {
+    let mut x = ports::reset_pins();
+    x.filters = f;
+    of_pins(name, x);
+}
+
+// Filters and waits in the outer planes, for pins 0 and 2, and for pins 1 and 2.
+fn outer() -> Filters {
+    let mut filter = [0u64; filters::PLANES];
+    filter[0] = 5;
+    filter[15] = 5;
+    let mut wait = [0u64; filters::PLANES];
+    wait[0] = 6;
+    wait[15] = 6;
+    Filters {
+        filter: filter,
+        wait: wait,
+    }
+}
+
+// Each plane by itself.
+fn show_planes() {
+    let all = Filters {
+        filter: [PIN_WORDS - 1; filters::PLANES],
+        wait: [PIN_WORDS - 1; filters::PLANES],
+    };
+    of_filters(b"greatest filters and waits", all);
+    for j in 0..filters::PLANES {
+        let mut f = outer();
+        f.filter[j] = PIN_WORDS + 1;
+        of_filters(b"a filter plane 2^48 + 1", f);
+        let mut f = outer();
+        f.wait[j] = PIN_WORDS + 1;
+        of_filters(b"a wait plane 2^48 + 1", f);
+    }
+}
+
+// Outputs with the greatest words.
 fn greatest_virtuals() -> Virtuals {
     Virtuals {
         own: OUTPUT_WORDS - 1,
@@ -260,6 +300,7 @@ pub fn show_ranges() {
     show_modes();
     show_all_pins();
     show_sources();
+    show_planes();
     show_outputs();
     show_cores();
 }

@@ -49,6 +49,24 @@ pub fn show_channel(c: Channel) {
     text(b"\n");
 }
 
+// The planes that are not 0, each behind its number; without any, nothing.
+fn show_planes(name: &[u8], a: [u64; filters::PLANES]) {
+    let mut found = false;
+    for j in 0..filters::PLANES {
+        if a[j] != 0 {
+            if !found {
+                text(name);
+                found = true;
+            }
+            small(b" ", j as u32);
+            number(b":", a[j]);
+        }
+    }
+    if found {
+        text(b"\n");
+    }
+}
+
 // The pins' words.
 pub fn show_pins(x: Pins) {
     number(b"  level ", x.level);
@@ -60,6 +78,11 @@ pub fn show_pins(x: Pins) {
     number(b" ", x.source1);
     number(b" ", x.source2);
     text(b"\n");
+    let f = x.filters;
+    let filter = f.filter;
+    let wait = f.wait;
+    show_planes(b"  filter", filter);
+    show_planes(b"  wait", wait);
 }
 
 // The outputs' words.

@@ -9,15 +9,14 @@ use borrow.Author.Tests.{lt-ltb, eqb-true, not-true, not-false}
 use Rattle.words.proofs.Cases.{paired, neither}
 use Rattle.words.proofs.BitLaws.{word-lt}
 use Rattle.counter.specs.declared.Channel.{Channel}
-use Rattle.ports.specs.Pins.{pinAt}
+use Rattle.ports.specs.Pins.{WholePin, wholeAt}
 use Rattle.ports.specs.Virtuals.{virtualAt}
-use Rattle.ports.specs.declared.Pin.{Pin}
 use Rattle.ports.specs.declared.Virtual.{Virtual}
 use Rattle.control.specs.declared.Core.{Core}
 use Rattle.calls.specs.Reply.{Reply, refuse}
 use Rattle.calls.specs.Fields.{isStep, stepFits}
 use Rattle.calls.specs.ChannelCalls.{channelCall}
-use Rattle.calls.specs.PinCalls.{pinCall}
+use Rattle.calls.specs.PinCalls.{wholeCall}
 use Rattle.calls.specs.VirtualCalls.{virtualCall}
 use Rattle.calls.specs.BoardCalls.{boardCall}
 use Rattle.calls.specs.declared.Event.{Event}
@@ -75,14 +74,14 @@ module _ (M : Members) (b h : Board) (seen : Seen M b h) (left : InRange b) (rig
         };
       })
   call-kept OnPin o = within 48 _ _ (λ k.
-      let same : pinCall e (pinAt (b .pins) (e .member)) ≡ pinCall e (pinAt (h .pins) (e .member)) = ap (pinCall e) (seen .pins (e .member) k (not-false _ o)) in
+      let same : wholeCall e (wholeAt (b .pins) (e .member)) ≡ wholeCall e (wholeAt (h .pins) (e .member)) = ap (wholeCall e) (seen .pins (e .member) k (not-false _ o)) in
       record {
-        answer = ap (λ (r : Reply Pin). r .answer) same;
+        answer = ap (λ (r : Reply WholePin). r .answer) same;
         state = record {
           channels = seen .channels;
           pins =
-              put-both 48 pinAt (M .isPin) (b .pins) (h .pins) (seen .pins) (pins-placed (b .pins)) (pins-placed (h .pins))
-              (e .member) _ _ (ap (λ (r : Reply Pin). r .state) same);
+              put-both 48 wholeAt (M .isPin) (b .pins) (h .pins) (seen .pins) (pins-placed (b .pins)) (pins-placed (h .pins))
+              (e .member) _ _ (ap (λ (r : Reply WholePin). r .state) same);
           virtuals = seen .virtuals;
           core = seen .core;
         };
@@ -184,7 +183,7 @@ module _ (M : Members) (b h : Board) (seen : Seen M b h) (left : InRange b) (e :
   call-gone OnPin o = passed 48 _ (record {
     state = record {
       channels = seen .channels;
-      pins = put-outside 48 pinAt (M .isPin) (b .pins) (h .pins) (seen .pins) (pins-placed (b .pins)) (e .member) _ (not-true _ o);
+      pins = put-outside 48 wholeAt (M .isPin) (b .pins) (h .pins) (seen .pins) (pins-placed (b .pins)) (e .member) _ (not-true _ o);
       virtuals = seen .virtuals;
       core = seen .core;
     };

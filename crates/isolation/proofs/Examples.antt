@@ -14,8 +14,11 @@ use Rattle.counter.specs.Advance.{edgeReasons, look, counted as countedOn, mask
 use Rattle.counter.specs.Difference.{clocked, errs}
 use Rattle.counter.specs.Preload.{preloaded, started}
 use Rattle.counter.specs.Queue.{captured, popped}
-use Rattle.counter.specs.Repair.{resetChannel, inReasons, repaired}
-use Rattle.ports.specs.Pins.{pinAt, putPin, pinLevel, sensed, driven, resetPins, repairedWords, repairedSources, repairedPins}
+use Rattle.words.specs.Range.{allOrReset}
+use Rattle.counter.specs.Repair.{resetChannel, repaired}
+use Rattle.filters.specs.Planes.{numberAt, planes}
+use Rattle.filters.specs.Filters.{followed, filteringAt, filtered, putFilter, resetFilters}
+use Rattle.ports.specs.Pins.{pinAt, putPin, wholeAt, putWhole, rawLevel, sensed, driven, resetPins, repairedWords, repairedSources, repairedPins}
 use Rattle.ports.specs.Virtuals.{virtualAt, putVirtual, virtualLevels, resetVirtuals, routed, repairedVirtuals}
 use Rattle.control.specs.Clock.{advanced, ticks, repairedClock}
 use Rattle.control.specs.Safety.{guarded, repairedSafety}
@@ -24,7 +27,7 @@ use Rattle.control.specs.Whole.{resetCore, repairedCore}
 use Rattle.calls.specs.BoardCalls.{intervalWrite, boardCall}
 use Rattle.calls.specs.ChannelCalls.{modeWrite, registerWrite, routeWrite, snapshotRead, channelCall}
 use Rattle.calls.specs.Fields.{stepFits, limits, limit, selectors, fits}
-use Rattle.calls.specs.PinCalls.{pinCall}
+use Rattle.calls.specs.PinCalls.{pinCall, wholeCall}
 use Rattle.calls.specs.VirtualCalls.{virtualCall}
 use Rattle.board.specs.Handed.{resetBoard, repairedBoard, lostCleared, kept, applied}
 use Rattle.board.specs.Inputs.{extouts, indexOf, samplesOf, inputsOf, channelNext, allNext}
@@ -43,7 +46,7 @@ use Rattle.isolation.specs.Apart.{Computed, ending, Refuting, quorum, sp
 use Rattle.isolation.proofs.Tests.{decided}
 
 pub computed : Computed
-unfolding bit word some every tab edgeReasons look countedOn masked asked loaded nextOf settled step advance clocked errs preloaded started captured popped resetChannel pinAt putPin pinLevel sensed driven resetPins virtualAt putVirtual virtualLevels resetVirtuals routed advanced ticks guarded restsAfter expiredAfter watchedIn watched kicked withInterval switched resetCore intervalWrite boardCall modeWrite registerWrite routeWrite snapshotRead channelCall stepFits limits limit selectors fits pinCall virtualCall resetBoard extouts indexOf samplesOf inputsOf channelNext allNext refusalIn refusalBy passedBy calledBy respondWith respond finish sceneOf coreNext stepWith stepped inReasons repaired repairedWords repairedSources repairedPins repairedVirtuals repairedClock repairedSafety repairedWatchdog repairedCore repairedBoard lostCleared kept applied remainder keptAnswers untold latest told onOutsider struck cleared shown clauses all without afterEach among group setup neighbours trial shared sole given quorum spilling
+unfolding bit word some every tab edgeReasons look countedOn masked asked loaded nextOf settled step advance clocked errs preloaded started captured popped resetChannel numberAt planes followed filteringAt filtered putFilter resetFilters pinAt putPin wholeAt putWhole rawLevel sensed driven resetPins virtualAt putVirtual virtualLevels resetVirtuals routed advanced ticks guarded restsAfter expiredAfter watchedIn watched kicked withInterval switched resetCore intervalWrite boardCall modeWrite registerWrite routeWrite snapshotRead channelCall stepFits limits limit selectors fits pinCall wholeCall virtualCall resetBoard extouts indexOf samplesOf inputsOf channelNext allNext refusalIn refusalBy passedBy calledBy respondWith respond finish sceneOf coreNext stepWith stepped allOrReset repaired repairedWords repairedSources repairedPins repairedVirtuals repairedClock repairedSafety repairedWatchdog repairedCore repairedBoard lostCleared kept applied remainder keptAnswers untold latest told onOutsider struck cleared shown clauses all without afterEach among group setup neighbours trial shared sole given quorum spilling
 computed = record {
   alike = record {
     longer = refl;
@@ -67,6 +70,7 @@ computed = record {
     boardCalls = (refl, refl);
     refusals = (refl, refl);
     safeWrites = (refl, refl);
+    filters = (refl, refl);
     halted = refl;
     once = refl;
     itself = refl;

@@ -3,8 +3,8 @@
 use mathlib.Core.Path.{_≡_, ap, subst, subst⁻¹}
 use mathlib.Core.Bool.{true, false}
 use Rattle.counter.specs.declared.Channel.{Channel}
+use Rattle.ports.specs.Pins.{WholePin}
 use Rattle.ports.specs.Virtuals.{virtualLevel}
-use Rattle.ports.specs.declared.Pin.{Pin}
 use Rattle.ports.specs.declared.Virtual.{Virtual}
 use Rattle.calls.specs.Reply.{Reply}
 use Rattle.calls.specs.declared.Event.{Event}
@@ -89,7 +89,12 @@ module _ (M : Members) where
         };
     pins = λ p k m.
         let q = s .pins p k m in
-        record { level = ap (λ (z : Pin). z .level) q; driven = ap (λ (z : Pin). z .driven) q };
+        record {
+          level = ap (λ (z : WholePin). z .pin .level) q;
+          driven = ap (λ (z : WholePin). z .pin .driven) q;
+          filter = ap (λ (z : WholePin). z .filter) q;
+          wait = ap (λ (z : WholePin). z .wait) q;
+        };
     virtuals = λ o k m.
         let q = s .virtuals o k m in
         record {

@@ -16,9 +16,10 @@ use Rattle.counter.specs.Samples.{samples}
 use Rattle.counter.specs.Advance.{inputs, advance}
 use Rattle.counter.specs.Repair.{noChannel}
 use Rattle.counter.specs.declared.Channel.{Channel}
-use Rattle.ports.specs.Pins.{pinAt, pinLevel, sensed, sourced, drivenBy, driven}
+use Rattle.ports.specs.Pins.{pinAt, WholePin, wholeAt, rawLevel, sensed, sourced, drivenBy, driven}
 use Rattle.ports.specs.Virtuals.{virtualLevel, virtualLevels, routed}
 use Rattle.ports.specs.declared.Pin.{Pin}
+use Rattle.ports.proofs.Wholes.{sensedPin, sensed-at}
 use Rattle.control.specs.Safety.{pinTriggers, activeLevel, watchdogTriggers, guarded}
 use Rattle.control.specs.Clock.{advanced, risesAt, ticks}
 use Rattle.control.specs.Watchdog.{hasExpired, watched}
@@ -117,24 +118,19 @@ module _ (M : Members) where
 
   module _ (t : Settings) (closed : Closed M t) (b h : Board) (told : Told t b) (seen : Seen M b h) (v w y x : ℕ)
       (lines : Agree 18 bit (λ i. M .isChannel (i / 3)) v y) (external : Agree 48 bit (M .isPin) w x) where
-    levels-same : Agree 48 bit (M .isPin) (word 48 (pinLevel (b .pins) w)) (word 48 (pinLevel (h .pins) x))
-    unfolding pinLevel
-    levels-same =
-        words-agree 48 (M .isPin) _ _ (λ p k m. ap₂ _||_ (external p k m) (ap (λ (q : Pin). q .driven) (seen .pins p k m)))
+    raw-same : (p : ℕ) → p < 48 → M .isPin p ≡ true → rawLevel (b .pins) w p ≡ rawLevel (h .pins) x p
+    unfolding rawLevel wholeAt
+    raw-same p k m = ap₂ _||_ (external p k m) (ap (λ (q : WholePin). q .pin .driven) (seen .pins p k m))
 
-    sensed-same : Agree 48 pinAt (M .isPin) (sensed w (b .pins)) (sensed x (h .pins))
-    unfolding sensed pinAt
-    sensed-same p k m = λ i. record {
-      source = seen .pins p k m i .source;
-      own = seen .pins p k m i .own;
-      safedata = seen .pins p k m i .safedata;
-      safeenable = seen .pins p k m i .safeenable;
-      level = levels-same p k m i;
-      driven = seen .pins p k m i .driven;
-    }
+    sensed-same : Agree 48 wholeAt (M .isPin) (sensed w (b .pins)) (sensed x (h .pins))
+    sensed-same p k m = sensed-at (b .pins) w p k ∙ ap₂ sensedPin (raw-same p k m) (seen .pins p k m) ∙ sym (sensed-at (h .pins) x p k)
 
     abbrev level : ℕ → Board → ℕ
-    level u z = word 48 (pinLevel (z .pins) u)
+    level u z = sensed u (z .pins) .level
+
+    levels-same : Agree 48 bit (M .isPin) (level w b) (level x h)
+    unfolding wholeAt pinAt
+    levels-same p k m = ap (λ (q : WholePin). q .pin .level) (sensed-same p k m)
 
     -- the board's own part as the step leaves it
     abbrev found : ℕ → Board → Core
@@ -162,7 +158,7 @@ module _ (M : Members) where
     scene l u z = sceneIn l (sensed u (z .pins)) (found u z) z
 
     scene-same : SameScene (scene v w b) (scene y x h)
-    unfolding sceneOf sensed
+    unfolding sceneOf
     scene-same = record {
       lines = lines;
       outs = extouts-same (b .channels) (h .channels) (seen .channels);
@@ -208,30 +204,34 @@ module _ (M : Members) where
           bound = rw (told .source p k) (closed .driving p k m)
 
       driven-bit : (p : ℕ) → p < 48 → M .isPin p ≡ true → drivenBy o₁ safemode (pinAt (sensed w (b .pins)) p) ≡ drivenBy o₂ safemode (pinAt (sensed x (h .pins)) p)
-      unfolding sensed pinAt
+      unfolding sensed wholeAt pinAt
       driven-bit p k m =
           let q : Pin = pinAt (sensed w (b .pins)) p in
           ap (λ s. cond (safemode && q .safeenable) (q .safedata) s) (sourced-same p k m (q .own))
-          ∙ ap (drivenBy o₂ safemode) (sensed-same p k m)
+          ∙ ap (λ (z : WholePin). drivenBy o₂ safemode (z .pin)) (sensed-same p k m)
 
-      driven-same : Agree 48 pinAt (M .isPin) (driven o₁ safemode (sensed w (b .pins))) (driven o₂ safemode (sensed x (h .pins)))
-      unfolding driven pinAt
+      driven-same : Agree 48 wholeAt (M .isPin) (driven o₁ safemode (sensed w (b .pins))) (driven o₂ safemode (sensed x (h .pins)))
+      unfolding driven wholeAt pinAt
       driven-same p k m = λ i. record {
-        source = sensed-same p k m i .source;
-        own = sensed-same p k m i .own;
-        safedata = sensed-same p k m i .safedata;
-        safeenable = sensed-same p k m i .safeenable;
-        level = sensed-same p k m i .level;
-        driven = words-agree 48 (M .isPin) _ _ driven-bit p k m i;
+        pin = record {
+          source = sensed-same p k m i .pin .source;
+          own = sensed-same p k m i .pin .own;
+          safedata = sensed-same p k m i .pin .safedata;
+          safeenable = sensed-same p k m i .pin .safeenable;
+          level = sensed-same p k m i .pin .level;
+          driven = words-agree 48 (M .isPin) _ _ driven-bit p k m i;
+        };
+        filter = sensed-same p k m i .filter;
+        wait = sensed-same p k m i .wait;
       }
 
     pub step-same : Seen M (stepped v w b) (stepped y x h)
-    unfolding stepped stepWith sensed
+    unfolding stepped stepWith
     step-same = record {
       channels = all-same;
       pins = λ p k m.
           driven-same _ _ (extouts-same _ _ all-same) _ p k m
-          ∙ ap (λ (c : Core). pinAt (driven (extouts (allNext (scene y x h) (h .channels))) (c .safety .safemode) (sensed x (h .pins))) p) core-same;
+          ∙ ap (λ (c : Core). wholeAt (driven (extouts (allNext (scene y x h) (h .channels))) (c .safety .safemode) (sensed x (h .pins))) p) core-same;
       virtuals = seen .virtuals;
       core = core-same;
     }

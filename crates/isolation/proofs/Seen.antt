@@ -1,7 +1,7 @@
 -- Two boards that look alike to the members: equal records of every member, and an equal part of the board's own.
 -- Assumes nothing.
 use mathlib.Core.Path.{_≡_, refl, sym, _∙_}
-use Rattle.ports.specs.Pins.{pinAt}
+use Rattle.ports.specs.Pins.{wholeAt}
 use Rattle.ports.specs.Virtuals.{virtualAt}
 use Rattle.board.specs.Inputs.{channelIn}
 use Rattle.board.specs.declared.Board.{Board}
@@ -10,7 +10,7 @@ use Rattle.isolation.proofs.Stores.{Agree}
 
 pub record Seen (M : Members) (x y : Board) : Type 0 where
   pub channels : Agree 6 channelIn (M .isChannel) (x .channels) (y .channels)
-  pub pins : Agree 48 pinAt (M .isPin) (x .pins) (y .pins)
+  pub pins : Agree 48 wholeAt (M .isPin) (x .pins) (y .pins)
   pub virtuals : Agree 6 virtualAt (M .isVirtual) (x .virtuals) (y .virtuals)
   pub core : x .core ≡ y .core
 

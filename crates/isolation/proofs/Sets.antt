@@ -9,11 +9,12 @@ use Rattle.words.proofs.Cases.{tested, either}
 use Rattle.counter.specs.Setters.{withMode, withRoute}
 use Rattle.counter.specs.declared.Channel.{Channel}
 use Rattle.counter.proofs.Settings.{SameSettings, captured-same, popped-same, preloaded-same, started-same}
+use Rattle.ports.specs.Pins.{WholePin}
 use Rattle.ports.specs.declared.Pin.{Pin}
 use Rattle.control.specs.declared.Core.{Core}
 use Rattle.calls.specs.Reply.{Reply, reply, refuse, accept}
 use Rattle.calls.specs.ChannelCalls.{modeWrite, routeWrite, snapshotRead, channelCall}
-use Rattle.calls.specs.PinCalls.{pinCall}
+use Rattle.calls.specs.PinCalls.{pinCall, wholeCall}
 use Rattle.calls.specs.BoardCalls.{intervalWrite, boardCall}
 use Rattle.calls.specs.declared.Event.{Event}
 use Rattle.calls.specs.declared.Answer.{Answer}
@@ -91,7 +92,7 @@ module _ (c : Channel) where
 
 -- ---- pins and the board's own part
 
-pub pin-set : (q : Pin) (e : Event) → Sets (λ x. x .source) (eqb (e .kind) 13) (e .v) q (pinCall e q)
+pin-set : (q : Pin) (e : Event) → Sets (λ x. x .source) (eqb (e .kind) 13) (e .v) q (pinCall e q)
 unfolding pinCall
 pin-set q e =
     let k = e .kind in
@@ -101,6 +102,12 @@ pin-set q e =
     (either S (eqb k 15) (keeping h refl)
     (either S (eqb k 16) (keeping h refl)
     (keeping h refl))))
+
+pub whole-set : (q : WholePin) (e : Event) → Sets (λ x. x .pin .source) (eqb (e .kind) 13) (e .v) q (wholeCall e q)
+unfolding wholeCall
+whole-set q e =
+    tested (Sets (λ (x : WholePin). x .pin .source) (eqb (e .kind) 13) (e .v) q) (eqb (e .kind) 30) (λ h. keeping (other (e .kind) 30 13 h refl) refl)
+    (λ _. record { after = pin-set (q .pin) e .after })
 
 pub core-set : (k : Core) (e : Event) → Sets (λ x. x .safety .control) (eqb (e .kind) 22) (e .v) k (boardCall e k)
 unfolding boardCall intervalWrite

@@ -11,14 +11,14 @@ use Rattle.words.proofs.BitLaws.{bit-none}
 use Rattle.counter.specs.Repair.{noChannel, resetChannel}
 use Rattle.counter.specs.declared.Channel.{Channel}
 use Rattle.counter.proofs.Settings.{advance-same}
-use Rattle.ports.specs.Pins.{pinAt, sensed, driven, resetPins}
-use Rattle.ports.specs.declared.Pin.{Pin}
+use Rattle.ports.proofs.Wholes.{source-held}
+use Rattle.ports.specs.Pins.{pinAt, WholePin, wholeAt, sensed, driven, resetPins}
 use Rattle.control.specs.Safety.{guarded}
 use Rattle.control.specs.Whole.{resetCore}
 use Rattle.calls.specs.Reply.{Reply, refuse}
 use Rattle.calls.specs.Fields.{isStep, fits}
 use Rattle.calls.specs.ChannelCalls.{channelCall}
-use Rattle.calls.specs.PinCalls.{pinCall}
+use Rattle.calls.specs.PinCalls.{wholeCall}
 use Rattle.calls.specs.BoardCalls.{boardCall}
 use Rattle.calls.specs.declared.Event.{Event}
 use Rattle.calls.specs.declared.Answer.{Answer}
@@ -34,11 +34,11 @@ use Rattle.board.proofs.Same.{InRange}
 use Rattle.words.proofs.Cases.{tested}
 use Rattle.words.proofs.Tables.{getD-tab}
 use Rattle.reach.proofs.RangedBoard.{past-checks}
-use Rattle.reach.proofs.RangedPins.{pin-sound, pin-ranged}
+use Rattle.reach.proofs.RangedPins.{whole-sound, whole-ranged}
 use Rattle.isolation.specs.Settings.{Settings, untold, latest, told}
-use Rattle.isolation.proofs.Placed.{channels-placed, source-held, pins-placed}
+use Rattle.isolation.proofs.Placed.{channels-placed, pins-placed}
 use Rattle.isolation.proofs.Told.{Told, settingsOf, settings-told}
-use Rattle.isolation.proofs.Sets.{setBy, Sets, SetChannel, channel-set, pin-set, core-set}
+use Rattle.isolation.proofs.Sets.{setBy, Sets, SetChannel, channel-set, whole-set, core-set}
 use Rattle.isolation.proofs.Latest.{of-another-kind, not-accepted, on-it, put-told}
 
 -- ---- before the first event
@@ -107,7 +107,7 @@ module _ (t : Settings) (b : Board) (e : Event) (m : Told t b) (range : InRange 
   within n r = past-checks (Telling t e) n _ e b r (λ m z _. refused m z)
 
   by-class : (C : Class) → classOf (e .kind) ≡ C → Telling t e (calledBy C b e)
-  unfolding calledBy refusalBy passedBy told
+  unfolding calledBy refusalBy passedBy told wholeAt
   by-class Step p = refused 3 refl
   by-class OnChannel p = within 6 _ (λ k f.
       let c : Channel = channelIn (b .channels) (e .member) in
@@ -122,16 +122,16 @@ module _ (t : Settings) (b : Board) (e : Event) (m : Told t b) (range : InRange 
         };
       })
   by-class OnPin p = within 48 _ (λ k f.
-      let x : Pin = pinAt (b .pins) (e .member) in
-      let q : Reply Pin = pinCall e x in
-      let s : Sets (λ (z : Pin). z .source) (eqb (e .kind) 13) (e .v) x q = pin-set x e in
+      let x : WholePin = wholeAt (b .pins) (e .member) in
+      let q : Reply WholePin = wholeCall e x in
+      let s : Sets (λ (z : WholePin). z .pin .source) (eqb (e .kind) 13) (e .v) x q = whole-set x e in
       record {
         after = record {
           mode = λ c h. m .mode c h ∙ sym (of-class e _ OnPin p 1 refl c (t .mode c));
           route = λ c h. m .route c h ∙ sym (of-class e _ OnPin p 4 refl c (t .route c));
           source =
-              put-told 48 pinAt (b .pins) (pins-placed (b .pins)) (λ x. x .source) 13 e q (t .source) k
-              (source-held (q .state) (ltb-true _ 7 (pin-sound x (pin-ranged (b .pins) (range .pins) (e .member) k) e f .ranged .source)) ∙ s .after) (m .source);
+              put-told 48 wholeAt (b .pins) (pins-placed (b .pins)) (λ x. x .pin .source) 13 e q (t .source) k
+              (source-held (q .state) (ltb-true _ 7 (whole-sound x (whole-ranged (b .pins) (range .pins) (e .member) k) e f .ranged .pin .source)) ∙ s .after) (m .source);
           control = m .control ∙ sym (of-class e _ OnPin p 22 refl 0 (t .control));
         };
       })

@@ -32,20 +32,21 @@ unfoldable pub group : Members
 group = members (0 ∷ 1 ∷ []) (7 ∷ 47 ∷ []) (2 ∷ [])
 
 -- The settings use every clause. Channel 0 counts steps while virtual output 2 is high, from 4294967295 on; channel 1 counts its carries and captures
--- the edges of its ExtOut; pin 7 shows ExtOut of channel 1 and is its ExtIn; a high pin 47 sets safemode, and virtual output 2 is low in that step.
+-- the edges of its ExtOut; pin 7 shows ExtOut of channel 1 through a filter of 1 and is its ExtIn; a high pin 47 sets safemode, and virtual output 2 is
+-- low in that step.
 unfoldable pub setup : List Event
 setup =
     call 22 0 3 ∷ call 18 2 1
     ∷ call 4 0 50 ∷ call 1 0 0x020C0030 ∷ call 2 0 4294967295 ∷ call 9 0 0 ∷ call 6 0 0
     ∷ call 4 1 7 ∷ call 1 1 0x000C0042 ∷ call 5 1 24 ∷ call 6 1 0
-    ∷ call 13 7 2 ∷ []
+    ∷ call 13 7 2 ∷ call 30 7 1 ∷ []
 
--- the outsiders' part: the queue of channel 2 overflows and tells it, channel 3 cascades from it, pin 5 is driven by it, virtual output 0 is high; and
--- an unknown kind, a channel that is not there, a refused step
+-- the outsiders' part: the queue of channel 2 overflows and tells it, channel 3 cascades from it, pin 5 is driven by it, pin 9 has a filter, virtual
+-- output 0 is high; and an unknown kind, a channel that is not there, a refused step
 unfoldable pub neighbours : List Event
 neighbours =
     replicate 17 (call 8 2 0)
-    ++ (call 11 2 0 ∷ call 1 2 0x00020030 ∷ call 6 2 0 ∷ call 1 3 0x40 ∷ call 6 3 0 ∷ call 13 5 3 ∷ call 18 0 1 ∷ call 99 0 0 ∷ call 10 6 0 ∷ call 0 1 0 ∷ [])
+    ++ (call 11 2 0 ∷ call 1 2 0x00020030 ∷ call 6 2 0 ∷ call 1 3 0x40 ∷ call 6 3 0 ∷ call 13 5 3 ∷ call 30 9 1 ∷ call 18 0 1 ∷ call 99 0 0 ∷ call 10 6 0 ∷ call 0 1 0 ∷ [])
 
 -- three steps and readings; a step with pin 47 up and readings; two steps more and readings. V and W are the outsiders' part of each step: lines of channel 2, pins 5 and 9
 unfoldable pub trial : ℕ → ℕ → List Event
@@ -67,9 +68,9 @@ sole = setup ++ trial 0 0
 -- what the events of the remainder are answered in both
 unfoldable pub given : List Answer
 given =
-    replicate 15 (number 0 0)
+    replicate 16 (number 0 0)
     ++ (record { result = 0; value = 1; timestamp = 0; reason = 16 }
-    ∷ number 0 1 ∷ number 0 2
+    ∷ number 0 0 ∷ number 0 2
     ∷ number 0 0
     ∷ number 0 1 ∷ number 5 0
     ∷ number 0 0 ∷ number 0 0
@@ -77,7 +78,7 @@ given =
 
 -- different lists to which the claim applies, and what it then says, computed
 pub record Example (M : Members) (es fs : List Event) (xs : List Answer) : Type 0 where
-  pub longer : length es ≡ 27 + length fs
+  pub longer : length es ≡ 28 + length fs
   pub closed : ClosedThroughout applied M es × ClosedThroughout applied M fs
   pub alike : Alike applied M es fs
   pub answers : (answersOf applied M es ≡ xs) × (answersOf applied M fs ≡ xs)
@@ -94,6 +95,9 @@ pub record Wording : Type 0 where
   -- so is a safe write that is answered 12 (request 5)
   pub safeWrites : Alike applied (members [] (0 ∷ []) []) (call 15 1 1 ∷ call 15 0 1 ∷ []) (call 15 0 1 ∷ [])
       × (answersOf applied (members [] (0 ∷ []) []) (call 15 1 1 ∷ call 15 0 1 ∷ []) ≡ number 12 0 ∷ [])
+  -- so is a write of a filter (request 6)
+  pub filters : Alike applied (members [] (0 ∷ []) []) (call 30 1 2 ∷ call 30 0 2 ∷ []) (call 30 0 2 ∷ [])
+      × (length (remainderOf applied (members [] (0 ∷ []) []) (call 30 0 2 ∷ call 30 1 2 ∷ call 30 0 3 ∷ [])) ≡ 2)
   -- the settings of a halted channel bind
   pub halted : isClosedThroughout applied (members (1 ∷ []) [] []) (call 1 1 0x40 ∷ []) ≡ false
   -- members that were unclosed once are not closed throughout

@@ -7,9 +7,8 @@ use Prim.Native.Nat.{ℕ, _<_}
 use lib.ListN.{getD}
 use Rattle.words.specs.Table.{tab}
 use Rattle.counter.specs.declared.Channel.{Channel}
-use Rattle.ports.specs.Pins.{pinAt}
+use Rattle.ports.specs.Pins.{WholePin, wholeAt}
 use Rattle.ports.specs.Virtuals.{virtualAt, virtualLevel}
-use Rattle.ports.specs.declared.Pin.{Pin}
 use Rattle.board.specs.Inputs.{channelIn}
 use Rattle.board.specs.declared.Board.{Board}
 use Rattle.isolation.specs.Members.{Members}
@@ -31,10 +30,13 @@ pub record SameChannel (x y : Channel) : Type 0 where
   pub lost : x .lost ≡ y .lost
   pub extout : x .extout ≡ y .extout
 
-pub record SamePin (x y : Pin) : Type 0 where
+pub record SamePin (x y : WholePin) : Type 0 where
   -- what call 17 reads
-  pub level : x .level ≡ y .level
-  pub driven : x .driven ≡ y .driven
+  pub level : x .pin .level ≡ y .pin .level
+  pub driven : x .pin .driven ≡ y .pin .driven
+  -- request 6
+  pub filter : x .filter ≡ y .filter
+  pub wait : x .wait ≡ y .wait
 
 -- the level of virtual output o, by the safemode that stands on the board
 abbrev pub levelOf : ℕ → Board → Bool
@@ -49,5 +51,5 @@ pub record SameVirtual (x y : Board) (o : ℕ) : Type 0 where
 
 pub record SameMembers (M : Members) (x y : Board) : Type 0 where
   pub channels : (c : ℕ) → c < 6 → M .isChannel c ≡ true → SameChannel (channelIn (x .channels) c) (channelIn (y .channels) c)
-  pub pins : (p : ℕ) → p < 48 → M .isPin p ≡ true → SamePin (pinAt (x .pins) p) (pinAt (y .pins) p)
+  pub pins : (p : ℕ) → p < 48 → M .isPin p ≡ true → SamePin (wholeAt (x .pins) p) (wholeAt (y .pins) p)
   pub virtuals : (o : ℕ) → o < 6 → M .isVirtual o ≡ true → SameVirtual x y o

@@ -1,4 +1,4 @@
--- Laws of the names: each is found again, none is a number, and each is one word.
+-- Laws of the names: each is found again, and each is one word.
 -- Assumes nothing.
 use mathlib.Core.Path.{_≡_, refl}
 use mathlib.Core.Bool.{Bool, true, false, not, _&&_, and-eq-true-iff}
@@ -17,38 +17,26 @@ use Rattle.scan.specs.Bytes.{ascii, same}
 use Rattle.scan.specs.Parts.{between, over}
 use Rattle.scan.specs.Numbers.{worth, extended, figure, number}
 use Rattle.scan.proofs.Numbers.{figure-none}
-use Rattle.kinds.specs.Names.{names, name, placeOf, kindOf, letter, noInput, inputAt, inputOf, inputName, pinName}
+use Rattle.kinds.specs.declared.Named.{Named}
+use Rattle.kinds.specs.declared.Named.the-variants.{Kind, Raw}
+use Rattle.kinds.specs.Names.{kinds, names, name, rawName, kindIn, kindOf, letter, noInput, inputAt, inputOf, inputName, pinName}
 use Rattle.words.proofs.Tables.{tab-at}
 
--- ---- the search for a name, place by place
+-- ---- the search for a name, kind by kind
 
-names-length : length names ≡ 31
+names-length : length names ≡ kinds
 unfolding names
 names-length = refl
 
--- the word is the name at place k
-pub place-here : (w : List ℕ) (k : ℕ) → k < 31 → same w (name k) ≡ true → placeOf w (drop k names) k ≡ k
-unfolding placeOf name
-place-here w k h e = let b : k < length names = omega (arith, names-length) in rw (drop-cons names k [], e)
+-- the word is the name of kind k
+pub kind-here : (w : List ℕ) (k : ℕ) → k < kinds → same w (name k) ≡ true → kindIn w (drop k names) k ≡ Kind k
+unfolding kindIn name
+kind-here w k h e = let b : k < length names = omega (arith, names-length) in rw (drop-cons names k [], e)
 
 -- or it is not
-pub place-next : (w : List ℕ) (k : ℕ) → k < 31 → same w (name k) ≡ false → placeOf w (drop k names) k ≡ placeOf w (drop (k + 1) names) (k + 1)
-unfolding placeOf name
-place-next w k h e = let b : k < length names = omega (arith, names-length) in rw (add-one, drop-cons names k [], e)
-
--- ---- names and kinds
-
-pub named : (k : ℕ) → k < 31 → placeOf (name k) names 0 ≡ k
-unfolding placeOf name names same ascii tab
-named = tab-at 31 (λ k. placeOf (name k) names 0) (λ k. k) refl
-
-pub no-number : (k : ℕ) → k < 31 → number (name k) .good ≡ false
-unfolding number figure extended worth over name names same ascii tab
-no-number = tab-at 31 (λ k. number (name k) .good) (λ k. false) refl
-
-pub kind-named : (k : ℕ) → k < 31 → kindOf (name k) ≡ k
-unfolding kindOf
-kind-named k h = rw (no-number k h) (named k h)
+pub kind-next : (w : List ℕ) (k : ℕ) → k < kinds → same w (name k) ≡ false → kindIn w (drop k names) k ≡ kindIn w (drop (k + 1) names) (k + 1)
+unfolding kindIn name
+kind-next w k h e = let b : k < length names = omega (arith, names-length) in rw (add-one, drop-cons names k [], e)
 
 -- ---- inputs
 
@@ -94,10 +82,6 @@ word (b ∷ l) h zero k =
     (not-true _ (t .0), not-true _ (t .1))
 word (b ∷ l) h (suc j) k = word l (and-eq-true-iff (inner b) (plain l) .0 h .1) j (le-of-suc-le-suc k)
 
-pub name-word : (k : ℕ) → k < 31 → Word (name k)
-unfolding plain between name names ascii tab
-name-word k h = word (name k) (tab-at 31 (λ k. plain (name k)) (λ k. true) refl k h)
-
 pub input-word : (i : ℕ) → i < 18 → Word (inputName i)
 unfolding plain between inputName tab
 input-word i h = word (inputName i) (tab-at 18 (λ i. plain (inputName i)) (λ i. true) refl i h)
@@ -108,13 +92,9 @@ pin-word i h = word (pinName i) (tab-at 48 (λ i. plain (pinName i)) (λ i. true
 
 -- ---- lengths
 
-pub name-some : (k : ℕ) → k < 31 → 0 < length (name k)
+pub name-length : (k : ℕ) → k < kinds → length (name k) ≤ 25
 unfolding name names ascii tab
-name-some k h = ltb-true _ _ (tab-at 31 (λ k. ltb 0 (length (name k))) (λ k. true) refl k h)
-
-pub name-length : (k : ℕ) → k < 31 → length (name k) ≤ 25
-unfolding name names ascii tab
-name-length k h = leb-true _ _ (tab-at 31 (λ k. leb (length (name k)) 25) (λ k. true) refl k h)
+name-length k h = leb-true _ _ (tab-at kinds (λ k. leb (length (name k)) 25) (λ k. true) refl k h)
 
 pub input-length : (i : ℕ) → length (inputName i) ≡ 2
 unfolding inputName
@@ -127,3 +107,25 @@ pin-length i = either (λ (l : List ℕ). suc (length l) ≤ 3) (ltb i 10) (omeg
 pub pin-some : (i : ℕ) → 0 < length (pinName i)
 unfolding pinName
 pin-some i = omega arith
+
+-- ---- the first word of a line
+
+-- one that is printed, and what it names
+pub record First (w : List ℕ) (n : Named) : Type 0 where
+  pub word : Word w
+  pub some : 0 < length w
+  pub short : length w ≤ 25
+  pub names : kindOf w ≡ n
+
+pub first-kind : (k : ℕ) → k < kinds → First (name k) (Kind k)
+unfolding plain between kindOf kindIn name names rawName number figure extended worth over same ascii tab
+first-kind k h = record {
+  word = word (name k) (tab-at kinds (λ k. plain (name k)) (λ k. true) refl k h);
+  some = ltb-true _ _ (tab-at kinds (λ k. ltb 0 (length (name k))) (λ k. true) refl k h);
+  short = name-length k h;
+  names = tab-at kinds (λ k. kindOf (name k)) Kind refl k h;
+}
+
+pub first-raw : First rawName Raw
+unfolding plain between kindOf rawName number figure extended worth over same ascii tab
+first-raw = record { word = word rawName refl; some = omega arith; short = omega arith; names = refl }

@@ -8,10 +8,16 @@ use lib.ListN.{getD, drop}
 use Rattle.scan.specs.Bytes.{ascii, same}
 use Rattle.scan.specs.Numbers.{figure, number}
 use Rattle.kinds.specs.declared.Input.{Input}
+use Rattle.kinds.specs.declared.Named.{Named}
+use Rattle.kinds.specs.declared.Named.the-variants.{Kind, Raw, Nothing}
 
 -- ---- kinds
 
--- the names of kinds 0 to 29, and at place 30 the word that gives all six fields
+-- how many there are
+abbrev pub kinds : ℕ
+kinds = 31
+
+-- the names of kinds 0 to 30
 unfoldable pub names : List (List ℕ)
 names =
     ascii "step"
@@ -23,25 +29,31 @@ names =
     ∷ ascii "control_write" ∷ ascii "swe_write" ∷ ascii "safemode_clear"
     ∷ ascii "watchdog_interval_write" ∷ ascii "watchdog_enable_write" ∷ ascii "watchdog_kick"
     ∷ ascii "timestamp_read" ∷ ascii "board_status"
-    ∷ ascii "raw"
+    ∷ ascii "pin_filter_write"
     ∷ []
 
 unfoldable pub name : ℕ → List ℕ
 name k = getD names k []
 
--- the first place at which a list has w, counted from k on, and its end where it has none
-unfoldable pub placeOf : List ℕ → List (List ℕ) → ℕ → ℕ
-placeOf w [] k = k
-placeOf w (n ∷ l) k = cond (same w n) k (placeOf w l (suc k))
+-- the word before six fields, which is the name of no kind
+unfoldable pub rawName : List ℕ
+rawName = ascii "raw"
 
--- the kind of a word, a number or a name: 30 for `raw`, 31 for a word that is none
-unfoldable pub kindOf : List ℕ → ℕ
-kindOf w = cond (number w .good) (cond (ltb (number w .value) 30) (number w .value) 31) (placeOf w names 0)
+-- the kind whose name is w, where a list has the names from kind k on
+unfoldable pub kindIn : List ℕ → List (List ℕ) → ℕ → Named
+kindIn w [] k = Nothing
+kindIn w (n ∷ l) k = cond (same w n) (Kind k) (kindIn w l (suc k))
+
+-- what the first word of a line names: a kind by its number or its name, or six fields as they are
+unfoldable pub kindOf : List ℕ → Named
+kindOf w =
+    cond (number w .good) (cond (ltb (number w .value) kinds) (Kind (number w .value)) Nothing)
+    (cond (same w rawName) Raw (kindIn w names 0))
 
 -- ---- fields
 
--- the fields that follow a name, the first in the lowest octal digit: 1 kind, 2 member, 3 selector, 4 spare, 5 V, 6 W; of a step none, since
--- its inputs can be named; a selector that comes last may be left out, and is then 0
+-- the fields that follow the name of a kind, the first in the lowest octal digit: 1 kind, 2 member, 3 selector, 4 spare, 5 V, 6 W; of a step
+-- none, since its inputs can be named; a selector that comes last may be left out, and is then 0
 unfoldable pub fieldTable : List ℕ
 fieldTable =
     -- 0 to 5
@@ -54,12 +66,16 @@ fieldTable =
     ∷ 0o52 ∷ 0o52 ∷ 0o52 ∷ 0o2
     -- 22 to 29
     ∷ 0o5 ∷ 0o5 ∷ 0 ∷ 0o35 ∷ 0o5 ∷ 0 ∷ 0 ∷ 0
-    -- raw
-    ∷ 0o654321
+    -- 30
+    ∷ 0o52
     ∷ []
 
 unfoldable pub fieldsOf : ℕ → ℕ
 fieldsOf k = getD fieldTable k 0
+
+-- those that follow `raw`, all six
+abbrev pub rawFields : ℕ
+rawFields = 0o654321
 
 -- ---- inputs
 

@@ -5,7 +5,14 @@ ghost use mathlib.Core.List.{_∷_};
 ghost use Prim.Native.Nat.{_+_, _≤_, _<_};
 ghost use lib.ListN.{length};
 ghost use Rattle.buffers.specs.Pieces.{put};
-ghost use Rattle.kinds.specs.Names.{names, name, placeOf, kindOf, fieldsOf, letter, inputAt, inputOf, inputName, pinName};
+ghost use Rattle.kinds.specs.Names.{kinds, names, name, rawName, kindIn, kindOf, fieldsOf, letter, inputAt, inputOf, inputName, pinName};
+
+// What the first word of a line names: a kind, the six fields of `raw`, or nothing.
+pub enum Named {
+    Kind(u8),
+    Raw,
+    Nothing,
+}
 
 // An input of a step that a word names: bit `place` of W for a pin, else of V.
 pub struct Input {
@@ -19,17 +26,14 @@ const CHANNELS: u64 = 6;
 
 const PINS: u64 = 48;
 
-// How many names there are: 30 kinds and `raw`.
-const COUNT: usize = 31;
+// How many kinds there are.
+const KINDS: usize = 31;
 
-// A word that names no kind.
-const NONE: u32 = 31;
+// The names of all kinds in a row, and the place at which each starts.
+const NAMES: [u8; 425] =
+    *b"stepmode_writepreload_writecompare_writeroute_writemask_writestarthaltsnapshotsoft_preloadcount_readsnapshot_readchannel_statussource_writepin_data_writepin_safe_data_writepin_safe_enable_writepin_level_readvirtual_data_writevirtual_safe_data_writevirtual_safe_enable_writevirtual_data_readcontrol_writeswe_writesafemode_clearwatchdog_interval_writewatchdog_enable_writewatchdog_kicktimestamp_readboard_statuspin_filter_write";
 
-// All names in a row, and the place at which each starts.
-const NAMES: [u8; 412] =
-    *b"stepmode_writepreload_writecompare_writeroute_writemask_writestarthaltsnapshotsoft_preloadcount_readsnapshot_readchannel_statussource_writepin_data_writepin_safe_data_writepin_safe_enable_writepin_level_readvirtual_data_writevirtual_safe_data_writevirtual_safe_enable_writevirtual_data_readcontrol_writeswe_writesafemode_clearwatchdog_interval_writewatchdog_enable_writewatchdog_kicktimestamp_readboard_statusraw";
-
-const STARTS: [usize; 32] = [
+const STARTS: [usize; KINDS + 1] = [
     0,
     4,
     14,
@@ -61,15 +65,18 @@ const STARTS: [usize; 32] = [
     383,
     397,
     409,
-    412,
+    425,
 ];
+
+// The word before six fields, which is the name of no kind.
+const RAW: [u8; 3] = *b"raw";
 
 // What is left where a selector comes last. It may be left out, and is then 0.
 pub const SELECTOR_LAST: u32 = 0o3;
 
-// The fields that follow each name, the first in the lowest octal digit: 1 kind, 2 member,
-// 3 selector, 4 spare, 5 V, 6 W.
-const FIELDS: [u32; 31] = [
+// The fields that follow the name of each kind, the first in the lowest octal digit: 1 kind,
+// 2 member, 3 selector, 4 spare, 5 V, 6 W.
+const FIELDS: [u32; KINDS] = [
     0, // 0 step
     0o52, // 1 mode_write
     0o532, // 2 preload_write
@@ -100,60 +107,79 @@ const FIELDS: [u32; 31] = [
     0, // 27 watchdog_kick
     0, // 28 timestamp_read
     0, // 29 board_status
-    0o654321, // raw
+    0o52, // 30 pin_filter_write
 ];
 
-// The place of a word among the names.
-fn place_of(w: &[u8]) -> u32
-    ensures { λ r. ⌜ r ≡ placeOf (now (w .entry)) names 0 ⌝ }
+// The fields that follow `raw`, all six.
+pub const RAW_FIELDS: u32 = 0o654321;
+
+// The kind that has a word for its name.
+fn by_name(w: &[u8]) -> Named
+    ensures { λ r. ⌜ r ≡ kindIn (now (w .entry)) names 0 ⌝ }
 {
     let all = NAMES;
     let mut k: usize = 0;
-    while k < COUNT {
+    while k < KINDS {
         let from = STARTS[k];
         let to = STARTS[k + 1];
         if scan::same(w, &all[from..to]) {
-            return k as u32;
+            return Named::Kind(k as u8);
         }
         k += 1;
     }
-    NONE
+    Named::Nothing
 }
 
-// The kind of a word, by number or by name.
-pub fn kind_of(w: &[u8]) -> u32
+// What the first word of a line names.
+pub fn kind_of(w: &[u8]) -> Named
     ensures { λ r. ⌜ r ≡ kindOf (now (w .entry)) ⌝ }
 {
     let n = scan::number(w);
     if n.good {
-        if n.value < 30 {
-            return n.value as u32;
+        if n.value < KINDS as u64 {
+            return Named::Kind(n.value as u8);
         }
-        return NONE;
+        return Named::Nothing;
     }
-    place_of(w)
+    let raw = RAW;
+    if scan::same(w, &raw) {
+        return Named::Raw;
+    }
+    by_name(w)
 }
 
-// The name at place k, from place `at` on.
-pub fn put_name(out: &mut [u8], at: usize, k: usize) -> usize
-    requires { ⌜ k < 31 ⌝ }
+// The name of kind k, from place `at` on.
+pub fn put_name(out: &mut [u8], at: usize, k: u8) -> usize
+    requires { ⌜ k < kinds ⌝ }
     requires { ⌜ at + 25 ≤ length (now out) ⌝ }
     ensures within { λ r. ⌜ r ≤ at + 25 ⌝ }
     ensures wrote { λ r. ⌜ (r ≡ at + length (name k)) × (now (out .exit) ≡ put (now (out .entry)) at (name k)) ⌝ }
 {
     let all = NAMES;
-    let from = STARTS[k];
-    let to = STARTS[k + 1];
+    let place = k as usize;
+    let from = STARTS[place];
+    let to = STARTS[place + 1];
     buffers::copy_to(&all[from..to], out, at);
     at + (to - from)
 }
 
-// The fields that follow the name at place k.
-pub fn fields_of(k: u32) -> u32
+// The word `raw`, from place `at` on.
+pub fn put_raw_name(out: &mut [u8], at: usize) -> usize
+    requires { ⌜ at + 3 ≤ length (now out) ⌝ }
+    ensures within { λ r. ⌜ r ≤ at + 3 ⌝ }
+    ensures wrote { λ r. ⌜ (r ≡ at + length rawName) × (now (out .exit) ≡ put (now (out .entry)) at rawName) ⌝ }
+{
+    let raw = RAW;
+    buffers::copy_to(&raw, out, at);
+    at + raw.len()
+}
+
+// The fields that follow the name of kind k.
+pub fn fields_of(k: u8) -> u32
     ensures { λ r. ⌜ r ≡ fieldsOf k ⌝ }
 {
-    let at = k as usize;
-    if at < COUNT { FIELDS[at] } else { 0 }
+    let place = k as usize;
+    if place < KINDS { FIELDS[place] } else { 0 }
 }
 
 // Which input of a channel a letter stands for: A, B, IX, or none.

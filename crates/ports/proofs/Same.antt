@@ -8,7 +8,9 @@ use lib.Dec.{eqb}
 use borrow.Author.Tests.{ltb-true, lt-ltb}
 use Rattle.words.specs.Bits.{bit, word, every}
 use Rattle.words.proofs.BitLaws.{bit-word, word-of, word-ext, word-lt}
-use Rattle.words.proofs.Every.{every-at, every-by, every-ext, word-none, reset-good}
+use Rattle.words.proofs.Every.{every-at, every-by, every-ext, word-none, reset-good, AllGood, good-each, good-all, good-same, good-reset}
+use Rattle.words.proofs.Tables.{length-tab, getD-tab}
+use Rattle.filters.specs.Planes.{planes}
 use Rattle.ports.specs.Pins.{number, pinAt, isSource, isPinWord, resetPins, pinsInRange, mended, repairedWords, repairedSources, repairedPins}
 use Rattle.ports.specs.Virtuals.{isOutputWord, resetVirtuals, virtualsInRange, repairedVirtuals}
 use Rattle.ports.specs.declared.Pins.{Pins}
@@ -27,16 +29,25 @@ pub record PinsInRange (x : Pins) : Type 0 where
   pub source1 : isPinWord (x .source1) ≡ true
   pub source2 : isPinWord (x .source2) ≡ true
   pub source : (p : ℕ) → p < 48 → isSource (pinAt x p .source) ≡ true
+  pub filter : AllGood isPinWord 16 (x .filters .filter)
+  pub wait : AllGood isPinWord 16 (x .filters .wait)
 
 -- a word of 48 bits made from its bits
 pub pin-word : (f : ℕ → Bool) → isPinWord (word 48 f) ≡ true
 pin-word f = lt-ltb _ _ (word-lt 48 f)
 
+-- and the planes of any numbers
+pub plane-words : (f : ℕ → ℕ) → AllGood isPinWord 16 (planes f)
+unfolding planes
+plane-words f = record { places = length-tab 16 _; each = λ j k. rw getD-tab (pin-word _) }
+
 module _ (x : Pins) where
   pub pins-fields : pinsInRange x ≡ true → PinsInRange x
   unfolding pinsInRange
   pins-fields h =
-      let h₈ = and-eq-true-iff _ _ .0 h in
+      let h₁₀ = and-eq-true-iff _ _ .0 h in
+      let h₉ = and-eq-true-iff _ _ .0 (h₁₀ .0) in
+      let h₈ = and-eq-true-iff _ _ .0 (h₉ .0) in
       let h₇ = and-eq-true-iff _ _ .0 (h₈ .0) in
       let h₆ = and-eq-true-iff _ _ .0 (h₇ .0) in
       let h₅ = and-eq-true-iff _ _ .0 (h₆ .0) in
@@ -54,19 +65,23 @@ module _ (x : Pins) where
         source1 = h₆ .1;
         source2 = h₇ .1;
         source = every-at 48 _ (h₈ .1);
+        filter = good-each (h₉ .1);
+        wait = good-each (h₁₀ .1);
       }
 
   pub pins-whole : PinsInRange x → pinsInRange x ≡ true
   unfolding pinsInRange
   pins-whole r =
-      rw (r .level, r .driven, r .own, r .safedata, r .safeenable, r .source0, r .source1, r .source2) (every-by 48 _ (r .source))
+      rw (r .level, r .driven, r .own, r .safedata, r .safeenable, r .source0, r .source1, r .source2, good-all (r .filter), good-all (r .wait))
+      (rw (every-by 48 _ (r .source)))
 
 -- ---- the repair of the pins
 
 module _ (x : Pins) (r : PinsInRange x) where
   words-same : repairedWords x ≡ x
   unfolding repairedWords
-  words-same = rw (r .level, r .driven, r .own, r .safedata, r .safeenable, r .source0, r .source1, r .source2)
+  words-same =
+      rw (r .level, r .driven, r .own, r .safedata, r .safeenable, r .source0, r .source1, r .source2, good-same 0 (r .filter), good-same 0 (r .wait))
 
   plane-same : (s : ℕ) → isPinWord s ≡ true → mended x s ≡ s
   plane-same s h =
@@ -83,6 +98,7 @@ module _ (x : Pins) (r : PinsInRange x) where
     source0 = plane-same (x .source0) (r .source0) i;
     source1 = plane-same (x .source1) (r .source1) i;
     source2 = plane-same (x .source2) (r .source2) i;
+    filters = x .filters;
   }
 
 pub pins-same : (x : Pins) → pinsInRange x ≡ true → repairedPins x ≡ x
@@ -118,6 +134,8 @@ pins-repaired x =
       source1 = pin-word _;
       source2 = pin-word _;
       source = sources-repaired (repairedWords x);
+      filter = good-reset isPinWord 0 16 (x .filters .filter) refl;
+      wait = good-reset isPinWord 0 16 (x .filters .wait) refl;
     })
 
 -- `low` holds the bits of the first two planes; no bit of it is in the third where every source number is in its range

@@ -1,10 +1,14 @@
--- The 48 pins: bit p of each word is pin p's. Document 01, "The step", parts 2 and 6, and the pins of a board handed in.
+-- The 48 pins: bit p of each word is pin p's. Document 01, "The step", parts 2 and 6, the filters of request 6, and the pins of a board handed in.
 -- Assumes nothing.
 use mathlib.Core.Bool.{Bool, true, false, cond, _&&_, _||_}
 use Prim.Native.Nat.{ℕ, _-_, _^_}
 use lib.Dec.{ltb}
 use Rattle.words.specs.Bits.{bit, flags, word, every, putBit}
-use Rattle.words.specs.Range.{orReset}
+use Rattle.words.specs.Range.{orReset, allGood, allOrReset}
+use Rattle.filters.specs.Planes.{numberAt}
+use Rattle.filters.specs.Filters.{filtered, putFilter, resetFilters}
+use Rattle.filters.specs.declared.Filtered.{Filtered}
+use Rattle.ports.specs.Setters.{withLevel, withDriven, withFilters}
 use Rattle.ports.specs.declared.Pin.{Pin}
 use Rattle.ports.specs.declared.Pins.{Pins}
 
@@ -12,7 +16,7 @@ use Rattle.ports.specs.declared.Pins.{Pins}
 abbrev pub number : Bool → Bool → Bool → ℕ
 number a b c = flags a b c false
 
--- pin p's own record
+-- pin p's own record; its level is the filtered one
 unfoldable pub pinAt : Pins → ℕ → Pin
 pinAt x p =
     record {
@@ -36,40 +40,33 @@ putPin p q x =
       source0 = putBit 48 p (bit (q .source) 0) (x .source0);
       source1 = putBit 48 p (bit (q .source) 1) (x .source1);
       source2 = putBit 48 p (bit (q .source) 2) (x .source2);
+      filters = x .filters;
     }
 
-abbrev pub withLevel : ℕ → Pins → Pins
-withLevel w x =
-    record {
-      level = w;
-      driven = x .driven;
-      own = x .own;
-      safedata = x .safedata;
-      safeenable = x .safeenable;
-      source0 = x .source0;
-      source1 = x .source1;
-      source2 = x .source2;
-    }
+-- a pin with its filter, and with for how many steps in a row its raw level has differed
+pub record WholePin : Type 0 where
+  pub pin : Pin
+  pub filter : ℕ
+  pub wait : ℕ
 
-abbrev pub withDriven : ℕ → Pins → Pins
-withDriven w x =
-    record {
-      level = x .level;
-      driven = w;
-      own = x .own;
-      safedata = x .safedata;
-      safeenable = x .safeenable;
-      source0 = x .source0;
-      source1 = x .source1;
-      source2 = x .source2;
-    }
+unfoldable pub wholeAt : Pins → ℕ → WholePin
+wholeAt x p = record { pin = pinAt x p; filter = numberAt (x .filters .filter) p; wait = numberAt (x .filters .wait) p }
 
--- part 2: a pin's level is 1 if its external level, bit p of w, is 1 or its driven value of the last step is 1
-unfoldable pub pinLevel : Pins → ℕ → ℕ → Bool
-pinLevel x w p = bit w p || pinAt x p .driven
+unfoldable pub putWhole : ℕ → WholePin → Pins → Pins
+putWhole p q x = withFilters (putFilter p (q .filter) (q .wait) (x .filters)) (putPin p (q .pin) x)
 
+-- part 2: a pin's raw level is 1 if its external level, bit p of w, is 1 or its driven value of the last step is 1
+unfoldable pub rawLevel : Pins → ℕ → ℕ → Bool
+rawLevel x w p = bit w p || pinAt x p .driven
+
+abbrev pub rawLevels : Pins → ℕ → ℕ
+rawLevels x w = word 48 (rawLevel x w)
+
+-- the filtered levels follow the raw ones, each by its filter (request 6)
 unfoldable pub sensed : ℕ → Pins → Pins
-sensed w x = withLevel (word 48 (pinLevel x w)) x
+sensed w x =
+    let r : Filtered = filtered (rawLevels x w) (x .level) (x .filters) in
+    withFilters (r .filters) (withLevel (r .level) x)
 
 -- a source number is 0 for the own register, or names one of six channels
 abbrev pub isSource : ℕ → Bool
@@ -89,13 +86,23 @@ driven outs safemode x = withDriven (word 48 (λ p. drivenBy outs safemode (pinA
 -- at reset all is 0, but every safe enable 1
 unfoldable pub resetPins : Pins
 resetPins =
-    record { level = 0; driven = 0; own = 0; safedata = 0; safeenable = word 48 (λ p. true); source0 = 0; source1 = 0; source2 = 0 }
+    record {
+      level = 0;
+      driven = 0;
+      own = 0;
+      safedata = 0;
+      safeenable = word 48 (λ p. true);
+      source0 = 0;
+      source1 = 0;
+      source2 = 0;
+      filters = resetFilters;
+    }
 
 -- a word of the pins has 48 bits
 abbrev pub isPinWord : ℕ → Bool
 isPinWord w = ltb w (2 ^ 48)
 
--- every word and every source number is in its range
+-- every word, every source number and every plane is in its range; each number that planes hold is one of 16 bits
 unfoldable pub pinsInRange : Pins → Bool
 pinsInRange x =
     isPinWord (x .level)
@@ -107,8 +114,10 @@ pinsInRange x =
     && isPinWord (x .source1)
     && isPinWord (x .source2)
     && every 48 (λ p. isSource (pinAt x p .source))
+    && allGood isPinWord 16 (x .filters .filter)
+    && allGood isPinWord 16 (x .filters .wait)
 
--- a word outside its range counts as at reset
+-- a word outside its range counts as at reset, and so does a plane
 unfoldable pub repairedWords : Pins → Pins
 repairedWords x =
     record {
@@ -120,6 +129,7 @@ repairedWords x =
       source0 = orReset isPinWord (resetPins .source0) (x .source0);
       source1 = orReset isPinWord (resetPins .source1) (x .source1);
       source2 = orReset isPinWord (resetPins .source2) (x .source2);
+      filters = record { filter = allOrReset isPinWord 0 16 (x .filters .filter); wait = allOrReset isPinWord 0 16 (x .filters .wait) };
     }
 
 -- a plane without the pins whose source number is outside its range, so that this number is 0
@@ -137,6 +147,7 @@ repairedSources x =
       source0 = mended x (x .source0);
       source1 = mended x (x .source1);
       source2 = mended x (x .source2);
+      filters = x .filters;
     }
 
 -- the pins of a board handed in: the words first, then the source numbers that stand in them

@@ -4,9 +4,13 @@ ghost use mathlib.Core.Path.{_≡_};
 ghost use Prim.Native.Nat.{_<_};
 ghost use mathlib.Core.Bool.{cond, _&&_};
 ghost use Rattle.words.specs.Bits.{bit, word, putBit};
-ghost use Rattle.words.specs.Range.{orReset};
+ghost use Rattle.words.specs.Range.{orReset, allGood, allOrReset};
+ghost use Rattle.filters.specs.Filters.{putFilter};
+ghost use Rattle.ports.specs.Setters.{withFilters};
 ghost use Rattle.ports.specs.Pins.{number, pinAt, putPin, sensed, isSource, sourced, driven, isPinWord, pinsInRange, repairedPins, resetPins};
 ghost use Rattle.ports.specs.Virtuals.{virtualAt, putVirtual, virtualLevels, isOutputWord, virtualsInRange, repairedVirtuals, resetVirtuals, routed};
+use filters::Filters;
+use filters::PLANES;
 
 // The number of pins, and of virtual outputs.
 pub const PINS: u64 = 48;
@@ -16,6 +20,9 @@ pub const VIRTUALS: u64 = 6;
 // Source numbers are below this: the own register and six ExtOuts.
 pub const SOURCES: u32 = 7;
 
+// Filters are below this, 16 bits.
+pub const FILTERS: u32 = 1 << 16;
+
 // Words of the virtual outputs are below this, 6 bits, and every bit of such a word.
 const OUTPUTS: u64 = 64;
 
@@ -24,7 +31,7 @@ const ALL_OUTPUTS: u64 = OUTPUTS - 1;
 // Routes below this read a pin or a virtual output.
 const ROUTED: u64 = PINS + VIRTUALS;
 
-// One pin.
+// One pin, but for its filter. Its level is the filtered one.
 #[repr(C)]
 pub struct Pin {
     pub source: u32,
@@ -36,7 +43,7 @@ pub struct Pin {
 }
 
 // All pins: bit p of each word is pin p's. The three source words hold the three bits of each
-// pin's source number.
+// pin's source number. `level` is the filtered level of the last step.
 #[repr(C)]
 pub struct Pins {
     pub level: u64,
@@ -47,6 +54,7 @@ pub struct Pins {
     pub source0: u64,
     pub source1: u64,
     pub source2: u64,
+    pub filters: Filters,
 }
 
 // One virtual output.
@@ -122,6 +130,28 @@ fn pin_word(reset: u64, w: u64) -> u64
     words::word_below(words::WORDS, reset, w)
 }
 
+// Planes handed in.
+fn pin_words(x: [u64; PLANES]) -> [u64; PLANES]
+    ensures { λ r. ⌜ r ≡ allOrReset isPinWord 0 16 x ⌝ }
+{
+    let mut r = x;
+    for j in 0..PLANES {
+        r[j] = pin_word(0, x[j]);
+    }
+    r
+}
+
+// Every plane is in its range.
+fn are_pin_words(x: [u64; PLANES]) -> bool
+    ensures { λ r. ⌜ r ≡ allGood isPinWord 16 x ⌝ }
+{
+    let mut sound = true;
+    for j in 0..PLANES {
+        sound = sound & (x[j] < words::WORDS);
+    }
+    sound
+}
+
 impl Pins {
     // Pin p's own record.
     pub fn at(self, p: u64) -> Pin
@@ -148,6 +178,7 @@ impl Pins {
         ensures { λ r. ⌜ r ≡ putPin p q self ⌝ }
     {
         let s = q.source as u64;
+        let filters = self.filters;
         Pins {
             level: words::put(self.level, p, q.level),
             driven: words::put(self.driven, p, q.driven),
@@ -157,14 +188,32 @@ impl Pins {
             source0: words::put(self.source0, p, words::bit(s, 0)),
             source1: words::put(self.source1, p, words::bit(s, 1)),
             source2: words::put(self.source2, p, words::bit(s, 2)),
+            filters: filters,
         }
     }
 
-    // Part 2 of a step: the levels, from the external levels and what the pins were driven with.
+    // A write of the filter of pin p, which begins its wait afresh.
+    pub fn write_filter(mut self, p: u64, f: u32) -> Pins
+        requires { ⌜ p < 48 ⌝ }
+        ensures { λ r. ⌜ r ≡ withFilters (putFilter p f 0 (self .filters)) self ⌝ }
+    {
+        let before = self.filters;
+        let after = before.write(p, f as u64);
+        self.filters = after;
+        self
+    }
+
+    // Part 2 of a step: the filtered levels follow the raw ones, which the external levels and what
+    // the pins were driven with make.
     pub fn sense(mut self, w: u64) -> Pins
         ensures { λ r. ⌜ r ≡ sensed w self ⌝ }
     {
-        self.level = words::either(w, self.driven);
+        let raw = words::either(w, self.driven);
+        let before = self.filters;
+        let next = before.step(raw, self.level);
+        let after = next.filters;
+        self.filters = after;
+        self.level = next.level;
         self
     }
 
@@ -177,10 +226,13 @@ impl Pins {
         self
     }
 
-    // Every word and every source number is in its range.
+    // Every word, every source number and every plane is in its range.
     pub fn is_sound(self) -> bool
         ensures { λ r. ⌜ r ≡ pinsInRange self ⌝ }
     {
+        let filters = self.filters;
+        let filter = filters.filter;
+        let wait = filters.wait;
         (self.level < words::WORDS)
             & (self.driven < words::WORDS)
             & (self.own < words::WORDS)
@@ -190,12 +242,18 @@ impl Pins {
             & (self.source1 < words::WORDS)
             & (self.source2 < words::WORDS)
             & (words::both(words::both(self.source0, self.source1), self.source2) == 0)
+            & are_pin_words(filter)
+            & are_pin_words(wait)
     }
 
-    // Pins handed in: a word outside its range counts as at reset, then a source number 7 as 0.
+    // Pins handed in: a word or a plane outside its range counts as at reset, then a source number 7
+    // as 0.
     pub fn repair(self) -> Pins
         ensures { λ r. ⌜ r ≡ repairedPins self ⌝ }
     {
+        let filters = self.filters;
+        let filter = filters.filter;
+        let wait = filters.wait;
         let s0 = pin_word(0, self.source0);
         let s1 = pin_word(0, self.source1);
         let s2 = pin_word(0, self.source2);
@@ -208,6 +266,10 @@ impl Pins {
             source0: mended(s0, s0, s1, s2),
             source1: mended(s1, s0, s1, s2),
             source2: mended(s2, s0, s1, s2),
+            filters: Filters {
+                filter: pin_words(filter),
+                wait: pin_words(wait),
+            },
         }
     }
 }
@@ -225,6 +287,7 @@ pub fn reset_pins() -> Pins
         source0: 0,
         source1: 0,
         source2: 0,
+        filters: filters::reset(),
     }
 }
 

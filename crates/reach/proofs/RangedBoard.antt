@@ -14,7 +14,7 @@ use Rattle.counter.specs.Setters.{withLost}
 use Rattle.counter.specs.Repair.{isKept, noChannel}
 use Rattle.counter.specs.declared.Channel.{Channel}
 use Rattle.counter.proofs.Same.{ChannelInRange}
-use Rattle.ports.specs.Pins.{pinAt, putPin}
+use Rattle.ports.specs.Pins.{wholeAt, putWhole}
 use Rattle.ports.specs.Virtuals.{virtualAt, putVirtual, routed}
 use Rattle.calls.specs.Reply.{Reply, refuse}
 use Rattle.calls.specs.Fields.{isStep, fits}
@@ -34,7 +34,7 @@ use Rattle.words.proofs.Tables.{length-tab, getD-tab, set-keeps}
 use Rattle.reach.proofs.Sound.{Sound, refusal, done, put-back}
 use Rattle.reach.proofs.RangedStep.{samples-kept, advance-ranged}
 use Rattle.reach.proofs.RangedChannel.{channel-sound}
-use Rattle.reach.proofs.RangedPins.{pin-sound, pin-ranged, put-pin-ranged, sensed-ranged, driven-ranged}
+use Rattle.reach.proofs.RangedPins.{whole-sound, whole-ranged, put-whole-ranged, sensed-ranged, driven-ranged}
 use Rattle.reach.proofs.RangedVirtuals.{virtual-sound, put-virtual-ranged}
 use Rattle.reach.proofs.RangedCore.{core-sound, core-ranged}
 
@@ -109,9 +109,9 @@ module _ (b : Board) (r : InRange b) where
         (set-ranged (e .member)) (set-same (e .member)) (λ c. set-lost (e .member) c m))
     by-class OnPin =
         checked-sound 48 _ (λ m f.
-        put-back (λ q. withPins (putPin (e .member) q (b .pins)) b) _
-        (pin-sound (pinAt (b .pins) (e .member)) (pin-ranged (b .pins) (r .pins) (e .member) m) e f)
-        (λ q p. record { six = r .six; channels = r .channels; pins = put-pin-ranged (b .pins) (r .pins) (e .member) q p; virtuals = r .virtuals; core = r .core })
+        put-back (λ q. withPins (putWhole (e .member) q (b .pins)) b) _
+        (whole-sound (wholeAt (b .pins) (e .member)) (whole-ranged (b .pins) (r .pins) (e .member) m) e f)
+        (λ q p. record { six = r .six; channels = r .channels; pins = put-whole-ranged (b .pins) (r .pins) (e .member) q p; virtuals = r .virtuals; core = r .core })
         (λ q n. absurd n) (λ q n. absurd n))
     by-class OnVirtual =
         checked-sound 6 _ (λ m f.

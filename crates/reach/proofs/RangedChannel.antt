@@ -40,15 +40,15 @@ module _ (c : Channel) (r : ChannelInRange c) where
   mode-sound : (v : ℕ) → goodMode v ≡ true → SoundCall c (modeWrite v c)
   unfolding modeWrite
   mode-sound v g =
-      halted-sound (withMode v c) (record { mode = g; route = r .route; mask = r .mask; kept = r .kept; carry = r .carry; places = r .places; reasons = r .reasons; held = r .held })
+      halted-sound (withMode v c) (record { mode = g; route = r .route; mask = r .mask; kept = r .kept; carry = r .carry; reasons = r .reasons; held = r .held })
 
   route-sound : (v : ℕ) → isRoute v ≡ true → SoundCall c (routeWrite v c)
   unfolding routeWrite
   route-sound v b =
-      halted-sound (withRoute v c) (record { mode = r .mode; route = b; mask = r .mask; kept = r .kept; carry = r .carry; places = r .places; reasons = r .reasons; held = r .held })
+      halted-sound (withRoute v c) (record { mode = r .mode; route = b; mask = r .mask; kept = r .kept; carry = r .carry; reasons = r .reasons; held = r .held })
 
   mask-sound : (v : ℕ) → isReasons v ≡ true → SoundCall c (maskWrite v c)
-  mask-sound v b = done (record { mode = r .mode; route = r .route; mask = b; kept = r .kept; carry = r .carry; places = r .places; reasons = r .reasons; held = r .held })
+  mask-sound v b = done (record { mode = r .mode; route = r .route; mask = b; kept = r .kept; carry = r .carry; reasons = r .reasons; held = r .held })
 
   read-sound : SoundCall c (snapshotRead c)
   unfolding snapshotRead

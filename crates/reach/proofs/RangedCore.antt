@@ -6,8 +6,9 @@ use mathlib.Core.List.{List}
 use Prim.Native.Nat.{ℕ, _+_}
 use native.Mathlib.Omega.{arith}
 use lib.Dec.{eqb, ltb}
-use lib.ListN.{length, getD, length-set}
+use lib.ListN.{length-set}
 use borrow.Author.Tests.{lt-ltb, ltb-true}
+use Rattle.words.proofs.Every.{AllGood}
 use Rattle.words.proofs.Tables.{set-keeps}
 use Rattle.control.specs.Clock.{prescalerNext, advanced}
 use Rattle.control.specs.Watchdog.{restOf, isInterval, isExpired, expiredAfter, watchedIn, watched, kicked, withInterval, switched}
@@ -29,7 +30,7 @@ module _ (d : Watchdog) (r : WatchdogInRange d) where
   -- the fields with no range may have any value
   running : {rests : List ℕ} {expired : ℕ} {enabled : Bool} → isExpired expired ≡ true
       → WatchdogInRange (record { intervals = d .intervals; rests = rests; expired = expired; enabled = enabled })
-  running h = record { places = r .places; intervals = r .intervals; expired = h }
+  running h = record { intervals = r .intervals; expired = h }
 
   -- a stage more has expired only where one is left
   one-more : isExpired (expiredAfter 3 (d .expired) (d .rests)) ≡ true
@@ -54,9 +55,12 @@ module _ (d : Watchdog) (r : WatchdogInRange d) where
   interval-ranged : (stage n : ℕ) → isInterval n ≡ true → WatchdogInRange (withInterval stage n d)
   unfolding withInterval
   interval-ranged stage n h = record {
-    places = either (λ (l : List ℕ). length l ≡ 3) (ltb stage 3) (simp length-set (r .places)) (r .places);
-    intervals = λ k b. either (λ (l : List ℕ). isInterval (getD l k 0) ≡ true) (ltb stage 3)
-        (set-keeps (λ x. isInterval x ≡ true) (d .intervals) stage n 0 k (r .intervals k b) h) (r .intervals k b);
+    intervals = either (AllGood isInterval 3) (ltb stage 3)
+        (record {
+          places = simp length-set (r .intervals .places);
+          each = λ k b. set-keeps (λ x. isInterval x ≡ true) (d .intervals) stage n 0 k (r .intervals .each k b) h;
+        })
+        (r .intervals);
     expired = r .expired;
   }
 

@@ -42,7 +42,7 @@ next-ranged now seen c = record { caught = lt-ltb _ _ (word-lt 9 _); carry = car
 -- ---- the record with them
 
 moved-on : (c : Channel) → ChannelInRange c → (n : ℕ) (d : ℤ) (a s x : Bool) (k : ℕ) → isCarry d ≡ true → isKept k ≡ true → ChannelInRange (withStep n d a s x k c)
-moved-on c r n d a s x k h b = record { mode = r .mode; route = r .route; mask = r .mask; kept = b; carry = h; places = r .places; reasons = r .reasons; held = r .held }
+moved-on c r n d a s x k h b = record { mode = r .mode; route = r .route; mask = r .mask; kept = b; carry = h; reasons = r .reasons; held = r .held }
 
 module _ (c : Channel) (r : ChannelInRange c) where
   recorded-ranged : (timestamp : ℕ) (n : Next) → NextInRange n → ChannelInRange (recorded timestamp n c .channel)

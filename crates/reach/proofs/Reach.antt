@@ -4,7 +4,9 @@ use mathlib.Core.Path.{_≡_, refl, ap, _∙_}
 use mathlib.Core.Bool.{true}
 use mathlib.Core.List.{List, [], _∷_}
 use Rattle.words.specs.Bits.{bit, word, every}
-use Rattle.counter.specs.Repair.{resetChannel, areReasons, channelInRange}
+use Rattle.words.specs.Range.{allGood}
+use Rattle.counter.specs.Repair.{resetChannel, channelInRange}
+use Rattle.filters.specs.Filters.{resetFilters}
 use Rattle.ports.specs.Pins.{pinAt, resetPins, pinsInRange}
 use Rattle.ports.specs.Virtuals.{resetVirtuals, virtualsInRange}
 use Rattle.control.specs.Watchdog.{watchdogInRange}
@@ -22,7 +24,7 @@ use Rattle.reach.proofs.Entry.{entry-same}
 -- ---- reset
 
 pub reset-ranged : inRange resetBoard ≡ true
-unfolding inRange channelInRange areReasons pinsInRange virtualsInRange watchdogInRange coreInRange every word bit pinAt resetBoard resetChannel resetPins resetVirtuals resetCore
+unfolding inRange allGood channelInRange pinsInRange virtualsInRange watchdogInRange coreInRange every word bit pinAt resetBoard resetChannel resetPins resetFilters resetVirtuals resetCore
 reset-ranged = refl
 
 -- ---- lists of events

@@ -1,8 +1,8 @@
--- Document 01, "Bench readings", a to j, and what requests 1 to 3 changed: lists of events from reset, what is then looked at, and the numbers that
+-- Document 01, "Bench readings", a to j, and what requests 1 to 6 changed: lists of events from reset, what is then looked at, and the numbers that
 -- are read.
 -- Assumes nothing.
 use mathlib.Core.List.{List, [], _∷_, _++_, map}
-use Prim.Native.Nat.{ℕ, zero, suc, _^_}
+use Prim.Native.Nat.{ℕ, zero, suc, _*_, _^_}
 use lib.ListN.{replicate}
 use Rattle.words.specs.Bits.{flag}
 use Rattle.calls.specs.Events.{call, register, lines}
@@ -25,6 +25,10 @@ steps n = replicate n (lines 0 0)
 unfoldable pub traced : List ℕ → List Event
 traced l = map (λ v. lines v 0) l
 
+-- the steps with these external levels of pin 5
+unfoldable pub fed : List ℕ → List Event
+fed l = map (λ n. lines 0 (n * 2 ^ 5)) l
+
 -- ---- what is looked at after the events
 
 pub data Look : Type 0 where
@@ -32,6 +36,8 @@ pub data Look : Type 0 where
   count : ℕ → Look
   -- a channel's ExtOut after each of further events
   extouts : ℕ → List Event → Look
+  -- what call 17 tells of a pin after each of further events
+  levels : ℕ → List Event → Look
   -- the four numbers of the answer to each of further events
   answers : List Event → Look
 
@@ -39,10 +45,10 @@ pub data Look : Type 0 where
 abbrev pub answer : Event → Look
 answer e = answers (e ∷ [])
 
--- a channel's ExtOut in each of the boards
-unfoldable pub extoutsIn : ℕ → List (Reply Board) → List ℕ
-extoutsIn c [] = []
-extoutsIn c (r ∷ rs) = flag (channelIn (r .state .channels) c .extout) ∷ extoutsIn c rs
+-- a number of each of the boards
+unfoldable pub ofEach : (Board → ℕ) → List (Reply Board) → List ℕ
+ofEach f [] = []
+ofEach f (r ∷ rs) = f (r .state) ∷ ofEach f rs
 
 -- the numbers of all answers in a row
 unfoldable pub answersIn : List (Reply Board) → List ℕ
@@ -53,7 +59,8 @@ answersIn (r ∷ rs) =
 
 unfoldable pub seen : Board → Look → List ℕ
 seen b (count c) = channelIn (b .channels) c .count ∷ []
-seen b (extouts c es) = extoutsIn c (replies respond b es)
+seen b (extouts c es) = ofEach (λ x. flag (channelIn (x .channels) c .extout)) (replies respond b es)
+seen b (levels p es) = ofEach (λ x. respond x (call 17 p 0) .answer .value) (replies respond b es)
 seen b (answers es) = answersIn (replies respond b es)
 
 pub record Reading : Type 0 where
@@ -134,6 +141,10 @@ safeWrites = answers (call 15 47 0 ∷ call 16 47 0 ∷ call 19 5 0 ∷ call 20 
 unfoldable pub safePin : List Event
 safePin = call 15 0 1 ∷ call 22 0 1 ∷ steps 2
 
+-- request 6: the level of pin 5 after each of these steps, with a filter of n
+unfoldable pub filtering : ℕ → List ℕ → List ℕ → Reading
+filtering n raw filtered = reading (call 30 5 n ∷ []) (levels 5 (fed raw)) filtered
+
 -- answers with nothing but their results
 abbrev pub results : List ℕ → List ℕ
 results [] = []
@@ -209,4 +220,21 @@ table =
     ∷ reading [] (answers (call 13 0 1 ∷ call 14 0 1 ∷ call 17 0 0 ∷ call 18 0 0 ∷ call 21 0 0 ∷ [])) (results (0 ∷ 0 ∷ 0 ∷ 0 ∷ 0 ∷ []))
     -- what was answered 12 is not written
     ∷ reading safePin (answer (call 17 0 0)) (told 0) ∷ reading (call 23 0 1 ∷ safePin) (answer (call 17 0 0)) (told 1)
+    -- request 6: a filter of 2, a filter of 0 and none, a filter of 1 up and down
+    ∷ filtering 2 (1 ∷ 1 ∷ 0 ∷ 1 ∷ 1 ∷ 1 ∷ []) (0 ∷ 0 ∷ 0 ∷ 0 ∷ 0 ∷ 1 ∷ [])
+    ∷ filtering 0 (1 ∷ 0 ∷ 1 ∷ []) (1 ∷ 0 ∷ 1 ∷ []) ∷ reading [] (levels 5 (fed (1 ∷ 0 ∷ 1 ∷ []))) (1 ∷ 0 ∷ 1 ∷ [])
+    ∷ filtering 1 (1 ∷ 1 ∷ 0 ∷ 1 ∷ 0 ∷ 0 ∷ []) (0 ∷ 1 ∷ 1 ∷ 1 ∷ 1 ∷ 0 ∷ [])
+    -- a write of the filter that stands begins the wait afresh, one that is refused does not, and one of 0 keeps the level until the next step
+    ∷ reading (call 30 5 1 ∷ fed (1 ∷ [])) (levels 5 (call 30 5 1 ∷ fed (1 ∷ 1 ∷ []))) (0 ∷ 0 ∷ 1 ∷ [])
+    ∷ reading (call 30 5 1 ∷ fed (1 ∷ [])) (levels 5 (call 30 5 65536 ∷ fed (1 ∷ []))) (0 ∷ 1 ∷ [])
+    ∷ reading (call 30 5 3 ∷ fed (1 ∷ [])) (levels 5 (call 30 5 0 ∷ fed (1 ∷ []))) (0 ∷ 1 ∷ [])
+    -- the greatest filter and one above; pin 48; a selector; kind 31
+    ∷ reading [] (answers (call 30 47 65535 ∷ call 30 47 65536 ∷ call 30 48 0 ∷ register 30 0 1 0 ∷ call 31 0 0 ∷ [])) (results (0 ∷ 3 ∷ 1 ∷ 3 ∷ 2 ∷ []))
+    -- a pin that drives itself up in step 1 has raw level 1 from step 2 on
+    ∷ reading (call 14 5 1 ∷ call 30 5 1 ∷ []) (levels 5 (steps 4)) (0 ∷ 0 ∷ 1 ∷ 1 ∷ [])
+    -- the button has to be pressed for two steps in a row
+    ∷ reading (call 30 47 1 ∷ button ∷ pressed ∷ lines 0 0 ∷ pressed ∷ []) statusRead (told 0)
+    ∷ reading (call 30 47 1 ∷ button ∷ pressed ∷ lines 0 0 ∷ pressed ∷ pressed ∷ []) statusRead (told 1)
+    -- a channel that counts while pin 5 is up, with a filter of 2
+    ∷ reading (call 30 5 2 ∷ call 1 0 0x02000030 ∷ call 4 0 5 ∷ call 6 0 0 ∷ fed (1 ∷ 1 ∷ 1 ∷ 1 ∷ [])) (count 0) (2 ∷ [])
     ∷ []

@@ -4,4 +4,6 @@ pub mod Safe
 pub mod Stages
 pub mod Before
 pub mod Told
+pub mod Filters
+pub mod Unfiltered
 pub mod Examples

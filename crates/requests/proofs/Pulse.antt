@@ -56,7 +56,7 @@ module _ (c : Channel) (r : ChannelInRange c) (timestamp : ℕ) (n : Next) where
   told =
       let Told : Capture → Type 0 = λ t. Stored c (n .caught) t ⊎ NotStored c t in
       either Told (eqb (n .caught) 0) (inr (refl, refl))
-      (tested Told (ltb (c .held) 16) (λ h. inl (refl, refl, last-put (c .reasons) (c .held) (n .caught) (omega (arith, ltb-true (c .held) 16 h, r .places)))) (λ h. inr (refl, refl)))
+      (tested Told (ltb (c .held) 16) (λ h. inl (refl, refl, last-put (c .reasons) (c .held) (n .caught) (omega (arith, ltb-true (c .held) 16 h, r .reasons .places)))) (λ h. inr (refl, refl)))
 
   abbrev pulse : Bool
   pulse = recorded timestamp n c .stored && isMatch (n .caught)

@@ -1,6 +1,6 @@
 -- Request 2: what a channel takes from a virtual output goes by the safemode in which the step ends.
 -- Assumes nothing.
-use mathlib.Core.Path.{_≡_, refl, _∙_, ap}
+use mathlib.Core.Path.{_≡_, refl, _∙_, ap, subst}
 use mathlib.Core.Bool.{Bool, true, false, not, cond, _&&_, Bool·beq}
 use Prim.Native.Nat.{ℕ, _+_, _-_, _*_, _/_, _%_, _^_, _<_}
 use native.Mathlib.Omega.{arith}
@@ -41,12 +41,34 @@ routed-virtual levels virtuals o k =
     let place : 48 + o - 48 ≡ o = omega arith in
     rw (le-ltb (48 + o) 48 (omega arith), lt-ltb (48 + o) 54 (omega arith), place)
 
-sample-of : (s : Scene) (c mode route o : ℕ) → o < 6 → route ≡ 48 + o → extin (samplesOf s c mode route) ≡ not (Bool·beq (bit (s .virtuals) o) (IP mode))
+sample-of : (s : Scene) (c mode route : ℕ) → extin (samplesOf s c mode route) ≡ not (Bool·beq (routed (s .levels) (s .virtuals) route) (IP mode))
 unfolding samplesOf
-sample-of s c mode route o k r =
-    let level : routed (s .levels) (s .virtuals) route ≡ bit (s .virtuals) o = rw r (routed-virtual (s .levels) (s .virtuals) o k) in
+sample-of s c mode route =
     let index : Bool = indexOf (XS mode) (bit (s .lines) (3 * c + 2)) (s .outs) (s .ticks) in
-    extin-of (bit (s .lines) (3 * c)) (bit (s .lines) (3 * c + 1)) index _ ∙ ap (λ x. not (Bool·beq x (IP mode))) level
+    extin-of (bit (s .lines) (3 * c)) (bit (s .lines) (3 * c + 1)) index _
+
+-- a channel of a board in a step, by its route
+module _ (b : Board) (v w c : ℕ) (k : c < 6) where
+  abbrev pub me : Channel
+  me = channelIn (b .channels) c
+
+  abbrev pub after : Board
+  after = stepped v w b
+
+  abbrev pub next : Channel
+  next = channelIn (after .channels) c
+
+  -- what the channels see in the step
+  abbrev scene : Scene
+  scene = sceneIn v (after .pins) (after .core) b
+
+  pub takes-routed : Takes (routed (after .pins .level) (virtualLevels (after .core .safety .safemode) (b .virtuals)) (me .route)) me next
+  unfolding stepped stepWith allNext channelNext inputsOf sceneOf driven
+  takes-routed = record {
+    taken = inputsOf scene c (channelIn (b .channels) (neighbour c) .carry) me;
+    sample = sample-of scene c (me .mode) (me .route);
+    next = getD-tab 6 _ c noChannel k;
+  }
 
 -- ---- a channel whose ExtIn is 0 and gates it
 
@@ -78,40 +100,25 @@ closes {c = c} im p t = rw (t .next) (still c (t .taken) im (t .sample ∙ rw p 
     ended true = refl
     ended false = refl
 
--- ---- a channel of a board
+-- ---- a channel of a board, routed to a virtual output
 
 module _ (b : Board) (v w c o : ℕ) (k : c < 6) (h : o < 6) (r : channelIn (b .channels) c .route ≡ 48 + o) where
-  abbrev me : Channel
-  me = channelIn (b .channels) c
-
   abbrev q : Virtual
   q = virtualAt (b .virtuals) o
 
-  abbrev after : Board
-  after = stepped v w b
-
   abbrev safemode : Bool
-  safemode = after .core .safety .safemode
+  safemode = after b v w c k .core .safety .safemode
 
-  abbrev next : Channel
-  next = channelIn (after .channels) c
+  takes : Takes (virtualLevel safemode q) (me b v w c k) (next b v w c k)
+  unfolding virtualLevels
+  takes =
+      let level = ap (routed _ _) r ∙ routed-virtual (after b v w c k .pins .level) (virtualLevels safemode (b .virtuals)) o h ∙ bit-word 6 _ o h in
+      subst (λ t. Takes t (me b v w c k) (next b v w c k)) level (takes-routed b v w c k)
 
-  -- what the channels see in the step
-  abbrev scene : Scene
-  scene = sceneIn v (after .pins) (after .core) b
-
-  takes : Takes (virtualLevel safemode q) me next
-  unfolding stepped stepWith allNext channelNext inputsOf sceneOf driven virtualLevels
-  takes = record {
-    taken = inputsOf scene c (channelIn (b .channels) (neighbour c) .carry) me;
-    sample = rw (bit-word 6 _ o h) at (sample-of scene c (me .mode) (me .route) o h r);
-    next = getD-tab 6 _ c noChannel k;
-  }
-
-  takes-safe : safemode ≡ true → q .safeenable ≡ true → Takes (q .safedata) me next
+  takes-safe : safemode ≡ true → q .safeenable ≡ true → Takes (q .safedata) (me b v w c k) (next b v w c k)
   takes-safe s e = rw (s, e) at takes
 
-  on-route : Routed safemode q me next
+  on-route : Routed safemode q (me b v w c k) (next b v w c k)
   on-route = record { level = takes; safe = takes-safe; gated = λ s e im p. closes im p (takes-safe s e) }
 
 pub request2 : Request2

@@ -292,7 +292,7 @@ sums : (b : Board) → inRange b ≡ true → Sums b
 unfolding finish
 sums b r e h es u k m =
     let w = board-fields b r .core .watchdog in
-    let some : (k : ℕ) → k < 3 → 0 < intervalOf (dog b) k = λ j l. ltb-true 0 (intervalOf (dog b) j) (w .intervals j l) in
+    let some : (k : ℕ) → k < 3 → 0 < intervalOf (dog b) k = λ j l. ltb-true 0 (intervalOf (dog b) j) (w .intervals .each j l) in
     let c = counted-list (dog b) some es (respond b e .state) 0 (begun-count b e some h) u .stage k m in
     (λ x. omega (arith, at-least c x), λ x. c .on (omega arith))
 

@@ -6,4 +6,5 @@ pub mod Safe
 pub mod Stages
 pub mod Before
 pub mod Told
+pub mod Filters
 pub mod Examples

@@ -3,8 +3,10 @@
 use mathlib.Core.Bool.{true, cond, _&&_}
 use Prim.Native.Nat.{ℕ}
 use lib.Dec.{eqb, ltb}
-use Rattle.ports.specs.Pins.{sensed}
-use Rattle.control.specs.Watchdog.{watchedIn}
+use Rattle.ports.specs.Setters.{withLevel}
+use Rattle.ports.specs.Pins.{rawLevels, sensed}
+use Rattle.ports.specs.declared.Pins.{Pins}
+use Rattle.control.specs.Watchdog.{watchedIn, watched}
 use Rattle.calls.specs.Reply.{Reply, refuse, accept}
 use Rattle.calls.specs.declared.Event.{Event}
 use Rattle.board.specs.Step.{stepWith, stepped}
@@ -35,3 +37,19 @@ calledWithout5 b e =
 
 unfoldable pub without5 : Board → Event → Reply Board
 without5 b e = respondWith stepped calledWithout5 b e
+
+-- ---- request 6
+
+-- a pin's level is its raw level, which no filter holds back
+unfoldable pub sensedWithout6 : ℕ → Pins → Pins
+sensedWithout6 w x = withLevel (rawLevels x w) x
+
+abbrev pub steppedWithout6 : ℕ → ℕ → Board → Board
+steppedWithout6 v w b = stepWith sensedWithout6 watched v w b
+
+-- kind 30 is unknown
+abbrev pub calledWithout6 : Board → Event → Reply Board
+calledWithout6 b e = cond (eqb (e .kind) 30) (refuse 2 b) (called b e)
+
+unfoldable pub without6 : Board → Event → Reply Board
+without6 b e = respondWith steppedWithout6 calledWithout6 b e

@@ -6,7 +6,7 @@ use mathlib.Core.List.{List, [], _∷_, _++_, append-assoc}
 use Prim.Native.Nat.{ℕ, zero, suc, _+_, _*_, _/_, _%_, _^_, _≤_, _<_}
 use native.Mathlib.Nat.{mod-eq-of-lt}
 use native.Mathlib.Omega.{arith}
-use borrow.Author.Tests.{ltb-true, eqb-true, eqb-false}
+use borrow.Author.Tests.{ne-eqb, ltb-true, eqb-true, eqb-false}
 use lib.Dec.{eqb, ltb}
 use lib.ListN.{length}
 use Rattle.words.specs.Table.{tab}
@@ -16,15 +16,17 @@ use Rattle.calls.specs.declared.Event.{Event}
 use Rattle.text.specs.Decimal.{decimal}
 use Rattle.text.proofs.Decimal.{length-decimal}
 use Rattle.scan.specs.Numbers.{number}
-use Rattle.kinds.specs.Names.{name, fieldsOf, fieldTable}
-use Rattle.kinds.proofs.Names.{Word, name-word, name-length}
+use Rattle.kinds.specs.declared.Named.{Named}
+use Rattle.kinds.specs.declared.Named.the-variants.{Kind, Raw}
+use Rattle.kinds.specs.Names.{kinds, name, rawName, fieldsOf, fieldTable, rawFields}
+use Rattle.kinds.proofs.Names.{Word, First, first-kind, first-raw}
 use Rattle.words.proofs.Tables.{tab-at}
 use Rattle.textin.specs.declared.Reading.{Reading}
-use Rattle.textin.specs.Readings.{withField, room, at, starting}
-use Rattle.textout.specs.Prints.{fieldOf, fieldText, noneLeft, fieldsText, has, usual, callText}
+use Rattle.textin.specs.Readings.{withField, room, at, starting, begun}
+use Rattle.textout.specs.Prints.{fieldOf, fieldText, noneLeft, fieldsText, has, usual, wordText, callText, rawText}
 use Rattle.textback.proofs.Figures.{read, eight, figures-decimal, some-decimal, read-decimal, figures-eight, some-eight, read-eight, length-eight}
 use Rattle.textback.proofs.Walk.{word-figures, Kept, kept-none, kept-append, kept-word, kept-led, led, led-append, reads, reads-word, reads-led}
-use Rattle.textback.proofs.Takes.{take-name, take-field, ended}
+use Rattle.textback.proofs.Takes.{take-first, take-field, ended}
 
 -- the fields hold no more than their bytes do
 pub record Ranged (e : Event) : Type 0 where
@@ -161,13 +163,13 @@ reads-fields (suc n) left f e l r g h =
 pub leftOut : ℕ → Event → Bool
 leftOut k e = eqb k 25 && unselected e
 
-left-over : (e : Event) (k : ℕ) → k < 31 → leftOver (unselected e) 6 (fieldsOf k) ≡ cond (leftOut k e) 3 0
+left-over : (e : Event) (k : ℕ) → k < kinds → leftOver (unselected e) 6 (fieldsOf k) ≡ cond (leftOut k e) 3 0
 unfolding stops leftOver leftOut fieldsOf fieldTable tab
-left-over e = tab-at 31 (λ k. leftOver (unselected e) 6 (fieldsOf k)) (λ k. cond (leftOut k e) 3 0) refl
+left-over e = tab-at kinds (λ k. leftOver (unselected e) 6 (fieldsOf k)) (λ k. cond (leftOut k e) 3 0) refl
 
-good-left : (k : ℕ) → k < 31 → goodLeft 6 (fieldsOf k) ≡ true
+good-left : (k : ℕ) → k < kinds → goodLeft 6 (fieldsOf k) ≡ true
 unfolding goodLeft fieldsOf fieldTable tab
-good-left = tab-at 31 (λ k. goodLeft 6 (fieldsOf k)) (λ k. true) refl
+good-left = tab-at kinds (λ k. goodLeft 6 (fieldsOf k)) (λ k. true) refl
 
 -- the fields of kind k, the others 0
 chosen : ℕ → Event → Event
@@ -184,14 +186,14 @@ chosen k e = record {
 abbrev selected : ℕ → Event → Event
 selected s e = record { kind = e .kind; member = e .member; selector = s; spare = e .spare; v = e .v; w = e .w }
 
-filled-chosen : (z : Bool) (e : Event) → unselected e ≡ z → (k : ℕ) → k < 30 → filled z 6 (fieldsOf k) (call k 0 0) e ≡ chosen k e
+filled-chosen : (z : Bool) (e : Event) → unselected e ≡ z → (k : ℕ) → k < kinds → filled z 6 (fieldsOf k) (call k 0 0) e ≡ chosen k e
 unfolding stops filled withField fieldOf chosen has fieldsOf fieldTable tab
 filled-chosen true e q k h =
     subst (λ (s : ℕ). filled true 6 (fieldsOf k) (call k 0 0) (selected s e) ≡ chosen k (selected s e)) (sym (eqb-true (e .selector) 0 q))
-    (tab-at 30 (λ k. filled true 6 (fieldsOf k) (call k 0 0) (selected 0 e)) (λ k. chosen k (selected 0 e)) refl k h)
-filled-chosen false e q k h = tab-at 30 (λ k. filled false 6 (fieldsOf k) (call k 0 0) e) (λ k. chosen k e) refl k h
+    (tab-at kinds (λ k. filled true 6 (fieldsOf k) (call k 0 0) (selected 0 e)) (λ k. chosen k (selected 0 e)) refl k h)
+filled-chosen false e q k h = tab-at kinds (λ k. filled false 6 (fieldsOf k) (call k 0 0) e) (λ k. chosen k e) refl k h
 
-filled-raw : (z : Bool) (e : Event) → filled z 6 (fieldsOf 30) (call 0 0 0) e
+filled-raw : (z : Bool) (e : Event) → filled z 6 rawFields (call 0 0 0) e
     ≡ record {
       kind = e .kind % 2 ^ 8;
       member = e .member % 2 ^ 8;
@@ -200,7 +202,7 @@ filled-raw : (z : Bool) (e : Event) → filled z 6 (fieldsOf 30) (call 0 0 0) e
       v = e .v % 2 ^ 32;
       w = e .w;
     }
-unfolding stops filled withField fieldOf fieldsOf fieldTable
+unfolding stops filled withField fieldOf
 filled-raw z e = refl
 
 -- a field that is among them or 0
@@ -226,7 +228,7 @@ chosen-same e r u = λ i. record {
   w = picked (has (fieldsOf (e .kind)) 6) (2 ^ 64) (e .w) (r .w) (u .w) i;
 }
 
-raw-same : (e : Event) → Ranged e → filled (unselected e) 6 (fieldsOf 30) (call 0 0 0) e ≡ e
+raw-same : (e : Event) → Ranged e → filled (unselected e) 6 rawFields (call 0 0 0) e ≡ e
 raw-same e r = filled-raw (unselected e) e ∙ (λ i. record {
   kind = mod-eq-of-lt (r .kind) i;
   member = mod-eq-of-lt (r .member) i;
@@ -236,32 +238,7 @@ raw-same e r = filled-raw (unselected e) e ∙ (λ i. record {
   w = e .w;
 })
 
--- ---- the line
-
--- the name at place k and the fields, where they make up event e
-reads-name : (k : ℕ) (e : Event) (l : List ℕ) → 0 < k → k < 31 → Ranged e
-    → filled (unselected e) 6 (fieldsOf k) (call (k % 30) 0 0) e ≡ e → led l ≡ true
-    → reads starting (callText k e ++ l) ≡ reads (ended true (leftOut k e) e) l
-unfolding callText
-reads-name k e l z b r q h =
-    ap (reads starting) (append-assoc (name k) (fieldsText 6 (fieldsOf k) e) l)
-    ∙ reads-word starting (name k) (fieldsText 6 (fieldsOf k) e ++ l) (name-word k b) (led-append (fieldsText 6 (fieldsOf k) e) l (led-fields 6 (fieldsOf k) e) h)
-    ∙ ap (λ (s : Reading). reads s (fieldsText 6 (fieldsOf k) e ++ l)) (take-name k z b)
-    ∙ reads-fields 6 (fieldsOf k) (call (k % 30) 0 0) e l r (good-left k b) h
-    ∙ ap (λ (s : Reading). reads s l) (λ i. at 1 (left-over e k b i) 1 (q i))
-
-pub reads-call : (e : Event) (l : List ℕ) → Ranged e → 0 < e .kind → e .kind < 30 → Usual e → led l ≡ true
-    → reads starting (callText (e .kind) e ++ l) ≡ reads (ended true (leftOut (e .kind) e) e) l
-reads-call e l r z b u h =
-    reads-name (e .kind) e l z (omega arith) r
-    (ap (λ (k : ℕ). filled (unselected e) 6 (fieldsOf (e .kind)) (call k 0 0) e) (mod-eq-of-lt b)
-    ∙ filled-chosen (unselected e) e refl (e .kind) b ∙ chosen-same e r u)
-    h
-
-pub reads-raw : (e : Event) (l : List ℕ) → Ranged e → led l ≡ true → reads starting (callText 30 e ++ l) ≡ reads (ended true (leftOut 30 e) e) l
-reads-raw e l r h = reads-name 30 e l (omega arith) (omega arith) r (raw-same e r) h
-
--- ---- the bytes of the line
+-- ---- the bytes of the fields, and of the first word
 
 kept-fields : (n left : ℕ) (e : Event) → Ranged e → goodLeft n left ≡ true → Kept (n * 21) (fieldsText n left e)
 unfolding fieldsText
@@ -277,9 +254,58 @@ kept-fields (suc n) left e r g = more (noneLeft left e) refl (kept-fields n (lef
         let s : 20 + 1 + n * 21 ≡ suc n * 21 = omega arith in
         rw (← s) (kept-append 21 (n * 21) (32 ∷ fieldText e (left % 8)) (fieldsText n (left / 8) e) (kept-led 20 (fieldText e (left % 8)) (x .word) (x .short)) (i (m .rest)))
 
-pub kept-name : (k : ℕ) → k < 31 → Kept 25 (name k)
-kept-name k b = kept-word 25 (name k) (name-word k b) (name-length k b)
+pub kept-first : {w : List ℕ} {n : Named} → First w n → Kept 25 w
+kept-first {w} f = kept-word 25 w (f .word) (f .short)
 
-pub kept-call : (k : ℕ) (e : Event) → k < 31 → Ranged e → Kept 151 (callText k e)
-unfolding callText
-kept-call k e b r = kept-append 25 126 (name k) (fieldsText 6 (fieldsOf k) e) (kept-name k b) (kept-fields 6 (fieldsOf k) e r (good-left k b))
+-- ---- the line
+
+-- the word names no step, and these fields of an event of kind k follow it
+record Heads (w : List ℕ) (fields k : ℕ) : Type 0 where
+  pub named : Named
+  pub first : First w named
+  pub begins : begun starting named ≡ at 1 fields 1 (call k 0 0)
+  pub good : goodLeft 6 fields ≡ true
+
+heads-kind : (k : ℕ) → 0 < k → k < kinds → Heads (name k) (fieldsOf k) k
+unfolding begun
+heads-kind k z b = record { named = Kind k; first = first-kind k b; begins = rw (ne-eqb k 0 (λ q. omega (arith, q))); good = good-left k b }
+
+heads-raw : Heads rawName rawFields 0
+unfolding begun goodLeft
+heads-raw = record { named = Raw; first = first-raw; begins = refl; good = refl }
+
+module _ {w : List ℕ} {fields k : ℕ} (H : Heads w fields k) (e : Event) (r : Ranged e) where
+  -- the word and the fields, where they make up event e
+  reads-headed : (out : Bool) (l : List ℕ) → leftOver (unselected e) 6 fields ≡ cond out 3 0
+      → filled (unselected e) 6 fields (call k 0 0) e ≡ e → led l ≡ true
+      → reads starting (wordText w fields e ++ l) ≡ reads (ended true out e) l
+  unfolding wordText
+  reads-headed out l o q h =
+      ap (reads starting) (append-assoc w (fieldsText 6 fields e) l)
+      ∙ reads-word starting w (fieldsText 6 fields e ++ l) (H .first .word) (led-append (fieldsText 6 fields e) l (led-fields 6 fields e) h)
+      ∙ ap (λ (s : Reading). reads s (fieldsText 6 fields e ++ l)) (take-first (H .first) ∙ H .begins)
+      ∙ reads-fields 6 fields (call k 0 0) e l r (H .good) h
+      ∙ ap (λ (s : Reading). reads s l) (λ i. at 1 (o i) 1 (q i))
+
+  kept-headed : Kept 151 (wordText w fields e)
+  unfolding wordText
+  kept-headed = kept-append 25 126 w (fieldsText 6 fields e) (kept-first (H .first)) (kept-fields 6 fields e r (H .good))
+
+-- ---- a call, and any event
+
+module _ (e : Event) (r : Ranged e) where
+  module _ (z : 0 < e .kind) (b : e .kind < kinds) where
+    pub reads-call : Usual e → (l : List ℕ) → led l ≡ true → reads starting (callText e ++ l) ≡ reads (ended true (leftOut (e .kind) e) e) l
+    reads-call u l =
+        reads-headed (heads-kind (e .kind) z b) e r (leftOut (e .kind) e) l (left-over e (e .kind) b)
+        (filled-chosen (unselected e) e refl (e .kind) b ∙ chosen-same e r u)
+
+    pub kept-call : Kept 151 (callText e)
+    kept-call = kept-headed (heads-kind (e .kind) z b) e r
+
+  pub reads-raw : (l : List ℕ) → led l ≡ true → reads starting (rawText e ++ l) ≡ reads (ended true false e) l
+  unfolding stops leftOver
+  reads-raw l = reads-headed heads-raw e r false l refl (raw-same e r)
+
+  pub kept-raw : Kept 151 (rawText e)
+  kept-raw = kept-headed heads-raw e r

@@ -10,14 +10,15 @@ use lib.Dec.{eqb, ltb}
 use Rattle.words.proofs.Cases.{tested}
 use Rattle.calls.specs.Events.{lines}
 use Rattle.calls.specs.declared.Event.{Event}
+use Rattle.kinds.specs.Names.{kinds}
 use Rattle.scan.specs.Parts.{parts, between, before, over}
 use Rattle.scan.proofs.Parts.{before-end}
 use Rattle.textin.specs.Readings.{starting, takeWord, finished, lineOf}
-use Rattle.textout.specs.Prints.{usual, plain, stepText, callText, eventText, timesText, runText}
+use Rattle.textout.specs.Prints.{usual, plain, stepText, callText, rawText, eventText, timesText, runText}
 use Rattle.textout.proofs.Texts.{plain-named}
 use Rattle.textback.proofs.Walk.{Quiet, Kept, kept-append, led, reads}
 use Rattle.textback.proofs.Takes.{ended, said, repeated, led-times, kept-times}
-use Rattle.textback.proofs.Calls.{Ranged, Usual, leftOut, reads-call, reads-raw, kept-call}
+use Rattle.textback.proofs.Calls.{Ranged, Usual, leftOut, reads-call, kept-call, reads-raw, kept-raw}
 use Rattle.textback.proofs.Steps.{any-up, reads-step, kept-step}
 
 -- the text x is that of event e: it is read as e, whatever follows it
@@ -63,7 +64,7 @@ called e k p =
     let c = and-eq-true-iff _ (usual e 5) .0 (d .0) in
     let b = and-eq-true-iff _ (usual e 4) .0 (c .0) in
     let a = and-eq-true-iff _ (usual e 3) .0 (b .0) in
-    record { member = and-eq-true-iff (ltb (e .kind) 30) (usual e 2) .0 (a .0) .1; selector = a .1; spare = b .1; v = c .1; w = d .1 }
+    record { member = and-eq-true-iff (ltb (e .kind) kinds) (usual e 2) .0 (a .0) .1; selector = a .1; spare = b .1; v = c .1; w = d .1 }
 
 -- ---- any event
 
@@ -74,23 +75,20 @@ says-event : (e : Event) → Ranged e → Says e (eventText e)
 unfolding eventText
 says-event e r = tested (Says e) (plain e) named (λ p. says-raw)
   where
-    says-raw : Says e (callText 30 e)
-    says-raw = record { fields = true; some = leftOut 30 e; go = λ l h. reads-raw e l r h; kept = kept-more (kept-call 30 e (omega arith) r) }
+    says-raw : Says e (rawText e)
+    says-raw = record { fields = true; some = false; go = reads-raw e r; kept = kept-more (kept-raw e r) }
 
     says-step : Still e → Says e (stepText e)
     says-step s = record { fields = false; some = any-up (e .v) (e .w); go = λ l h. reads-step e l (s .whole) (s .v) (s .w) h; kept = kept-step e }
 
-    says-call : (e .kind ≡ 0 → ⊥) → e .kind < 30 → Usual e → Says e (callText (e .kind) e)
-    says-call n k u =
-        record {
-          fields = true;
-          some = leftOut (e .kind) e;
-          go = λ l h. reads-call e l r (omega (arith, n)) k u h;
-          kept = kept-more (kept-call (e .kind) e (omega (arith, k)) r);
-        }
+    says-call : 0 < e .kind → e .kind < kinds → Usual e → Says e (callText e)
+    says-call z k u = record { fields = true; some = leftOut (e .kind) e; go = reads-call e r z k u; kept = kept-more (kept-call e r z k) }
 
-    named : plain e ≡ true → Says e (cond (eqb (e .kind) 0) (stepText e) (callText (e .kind) e))
-    named p = tested (Says e) (eqb (e .kind) 0) (λ k. says-step (still e k p)) (λ k. let n = eqb-false (e .kind) 0 k in says-call n (plain-named e p n) (called e k p))
+    named : plain e ≡ true → Says e (cond (eqb (e .kind) 0) (stepText e) (callText e))
+    named p =
+        tested (Says e) (eqb (e .kind) 0)
+        (λ k. says-step (still e k p))
+        (λ k. let n = eqb-false (e .kind) 0 k in says-call (omega (arith, n)) (plain-named e p n) (called e k p))
 
 pub kept-run : (n : ℕ) (e : Event) → Ranged e → Kept 312 (runText n e)
 unfolding runText

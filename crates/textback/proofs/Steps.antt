@@ -18,13 +18,13 @@ use Rattle.calls.specs.Events.{lines}
 use Rattle.calls.specs.declared.Event.{Event}
 use Rattle.scan.specs.Numbers.{number}
 use Rattle.kinds.specs.Names.{name, inputOf, inputName, pinName}
-use Rattle.kinds.proofs.Names.{Word, name-word, input-named, pin-named, input-no-number, pin-no-number, input-word, pin-word, input-length, pin-length, pin-some}
+use Rattle.kinds.proofs.Names.{Word, first-kind, input-named, pin-named, input-no-number, pin-no-number, input-word, pin-word, input-length, pin-length, pin-some}
 use Rattle.textin.specs.declared.Reading.{Reading}
-use Rattle.textin.specs.Readings.{raised, starting}
+use Rattle.textin.specs.Readings.{raised, starting, begun}
 use Rattle.textout.specs.Prints.{inputText, pinText, stepText}
 use Rattle.textback.proofs.Walk.{Kept, kept-none, kept-append, kept-led, kept-joined, led, led-append, led-joined, reads, reads-word, reads-led}
-use Rattle.textback.proofs.Takes.{take-step, take-input, behind, ended}
-use Rattle.textback.proofs.Calls.{kept-name}
+use Rattle.textback.proofs.Takes.{take-first, take-input, behind, ended}
+use Rattle.textback.proofs.Calls.{kept-first}
 
 -- ---- one word of bits: inputs are named from bit 0 on
 
@@ -181,11 +181,11 @@ any-up v w = some-up 48 true pinName pins w 48 (some-up 18 false inputName input
 
 pub reads-step : (e : Event) (l : List ℕ) → e ≡ lines (e .v) (e .w) → e .v < 2 ^ 18 → e .w < 2 ^ 48 → led l ≡ true
     → reads starting (stepText e ++ l) ≡ reads (ended false (any-up (e .v) (e .w)) e) l
-unfolding stepText inputText pinText called-at any-up
+unfolding stepText inputText pinText called-at any-up begun
 reads-step e l q v w h =
     ap (reads starting) (append-assoc (name 0) (input-names ++ pin-names) l)
-    ∙ reads-word starting (name 0) ((input-names ++ pin-names) ++ l) (name-word 0 (omega arith)) (led-append (input-names ++ pin-names) l (led-append input-names pin-names led-inputs led-pins) h)
-    ∙ ap (λ (s : Reading). reads s ((input-names ++ pin-names) ++ l)) take-step
+    ∙ reads-word starting (name 0) ((input-names ++ pin-names) ++ l) (first-kind 0 (omega arith) .word) (led-append (input-names ++ pin-names) l (led-append input-names pin-names led-inputs led-pins) h)
+    ∙ ap (λ (s : Reading). reads s ((input-names ++ pin-names) ++ l)) (take-first (first-kind 0 (omega arith)))
     ∙ ap (reads (behind false (lines 0 0))) (append-assoc input-names pin-names l)
     ∙ reads-all 18 false inputName inputs (e .v) (λ x. lines x 0) raise-input false (pin-names ++ l) v (led-append pin-names l led-pins h)
     ∙ reads-all 48 true pinName pins (e .w) (lines (e .v)) (raise-pin (e .v)) (some-up 18 false inputName inputs (e .v) 18 false) l w h
@@ -207,7 +207,7 @@ pub kept-step : (e : Event) → Kept 289 (stepText e)
 unfolding stepText inputText pinText called-at
 kept-step e =
     kept-append 25 264 (name 0) (joined 18 (called-at 18 false inputName inputs (e .v)) ++ joined 48 (called-at 48 true pinName pins (e .w)))
-    (kept-name 0 (omega arith))
+    (kept-first (first-kind 0 (omega arith)))
     (kept-append 72 192 (joined 18 (called-at 18 false inputName inputs (e .v))) (joined 48 (called-at 48 true pinName pins (e .w)))
     (kept-joined 4 18 (called-at 18 false inputName inputs (e .v)) (kept-at 18 false inputName inputs (e .v)))
     (kept-joined 4 48 (called-at 48 true pinName pins (e .w)) (kept-at 48 true pinName pins (e .w))))

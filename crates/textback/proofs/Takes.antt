@@ -3,12 +3,11 @@
 use mathlib.Core.Path.{_≡_, refl, ap, _∙_}
 use mathlib.Core.Bool.{Bool, true, false, cond}
 use mathlib.Core.List.{List, [], _∷_, _++_}
-use Prim.Native.Nat.{ℕ, zero, suc, _+_, _/_, _%_, _^_, _<_}
+use Prim.Native.Nat.{ℕ, zero, suc, _/_, _%_, _^_, _<_}
 use native.Mathlib.Omega.{arith}
 use borrow.Author.Tests.{lt-ltb, ne-eqb}
 use lib.Dec.{eqb}
 use lib.ListN.{length}
-use Rattle.calls.specs.Events.{call}
 use Rattle.calls.specs.declared.Event.{Event}
 use Rattle.words.specs.Table.{tab}
 use Rattle.buffers.proofs.Joined.{split}
@@ -16,14 +15,15 @@ use Rattle.words.proofs.Cases.{either}
 use Rattle.scan.specs.Bytes.{ascii, same}
 use Rattle.scan.specs.Parts.{between, over}
 use Rattle.scan.specs.Numbers.{worth, extended, figure, number}
-use Rattle.kinds.specs.Names.{name, fieldsOf, inputOf}
+use Rattle.kinds.specs.Names.{inputOf}
 use Rattle.kinds.specs.declared.Input.{Input}
-use Rattle.kinds.proofs.Names.{Word, kind-named, name-some}
+use Rattle.kinds.specs.declared.Named.{Named}
+use Rattle.kinds.proofs.Names.{Word, First}
 use Rattle.text.specs.Decimal.{decimal}
 use Rattle.text.proofs.Decimal.{length-decimal}
 use Rattle.textin.specs.declared.Reading.{Reading}
 use Rattle.textin.specs.declared.Line.{Line}
-use Rattle.textin.specs.Readings.{withField, room, raised, at, starting, takeKind, takeField, takeStar, takeLast, takeInput, takeStep, takeTimes, takeSome, takeWord, whole, finished}
+use Rattle.textin.specs.Readings.{withField, room, raised, at, starting, begun, takeKind, takeField, takeStar, takeLast, takeInput, takeStep, takeTimes, takeSome, takeWord, whole, finished}
 use Rattle.textout.specs.Prints.{timesText}
 use Rattle.textback.proofs.Figures.{read, figures-decimal, some-decimal, read-decimal}
 use Rattle.textback.proofs.Walk.{word-figures, Kept, kept-none, kept-append, kept-led, led, reads, reads-end, reads-led, reads-last}
@@ -32,16 +32,11 @@ take-some : (s : Reading) (w : List ℕ) → 0 < length w → takeWord s w ≡ t
 unfolding takeWord
 take-some s w h = rw (ne-eqb (length w) 0 (λ e. omega arith))
 
--- ---- the name
+-- ---- the first word
 
-pub take-step : takeWord starting (name 0) ≡ at 2 0 1 (call 0 0 0)
+pub take-first : {w : List ℕ} {n : Named} → First w n → takeWord starting w ≡ begun starting n
 unfolding takeSome takeKind
-take-step = take-some starting (name 0) (name-some 0 (omega arith)) ∙ rw (kind-named 0 (omega arith))
-
-pub take-name : (k : ℕ) → 0 < k → k < 31 → takeWord starting (name k) ≡ at 1 (fieldsOf k) 1 (call (k % 30) 0 0)
-unfolding takeSome takeKind
-take-name k z h =
-    take-some starting (name k) (name-some k h) ∙ rw (kind-named k h, ne-eqb k 31 (λ e. omega (arith, e)), ne-eqb k 0 (λ e. omega (arith, e)))
+take-first {w} f = take-some starting w (f .some) ∙ ap (begun starting) (f .names)
 
 -- ---- a field
 

@@ -38,7 +38,11 @@ table =
     ∷ good "start 0" 1 (call 6 0 0) ∷ good "6 0" 1 (call 6 0 0) ∷ good "0x6 00" 1 (call 6 0 0) ∷ good "start 255" 1 (call 6 255 0)
     ∷ good "mode_write 0 0x01682030" 1 (call 1 0 23601200) ∷ good "1 5 0xfF" 1 (call 1 5 255) ∷ bad "1 5 0XF" 6
     ∷ good "board_status" 1 (call 29 0 0) ∷ good "control_write 4" 1 (call 22 0 4)
-    ∷ bad "Start 0" 1 ∷ bad "star 0" 1 ∷ bad "start0" 1 ∷ bad "30 0" 1 ∷ bad "0x" 1 ∷ bad "18446744073709551616" 1 ∷ bad "* 2" 1
+    ∷ bad "Start 0" 1 ∷ bad "star 0" 1 ∷ bad "start0" 1 ∷ bad "31 0" 1 ∷ bad "0x" 1 ∷ bad "18446744073709551616" 1 ∷ bad "* 2" 1
+    -- the last kind, and words that are nearly names
+    ∷ good "pin_filter_write 5 1000" 1 (call 30 5 1000) ∷ good "30 5 0x3e8" 1 (call 30 5 1000)
+    ∷ good "pin_filter_write 48 65536 # refused when it is run" 1 (call 30 48 65536)
+    ∷ bad "30 0" 6 ∷ bad "pin_filter_write 5" 6 ∷ bad "pin_filter_write" 3 ∷ bad "pin_filter 5 1000" 1 ∷ bad "raw_ 1" 1
     -- fields
     ∷ good "preload_write 0 1 4294967295" 1 (register 2 0 1 4294967295) ∷ good "preload_write 0 2 0xffffffff" 1 (register 2 0 2 4294967295)
     ∷ bad "preload_write 0 1 4294967296" 6 ∷ bad "preload_write 0 1" 6 ∷ bad "preload_write 0" 4 ∷ bad "preload_write" 3 ∷ bad "start 256" 3 ∷ bad "start a" 3
@@ -51,6 +55,7 @@ table =
     ∷ bad "watchdog_interval_write 5 1 2" 8
     -- six fields
     ∷ good "raw 200 1 2 3 4 18446744073709551615" 1 (record { kind = 200; member = 1; selector = 2; spare = 3; v = 4; w = 18446744073709551615 })
+    ∷ good "raw 30 5 0 0 1000 0" 1 (call 30 5 1000)
     ∷ bad "raw" 2 ∷ bad "raw 256" 2 ∷ bad "raw 1 2 3" 5 ∷ bad "raw 1 2 3 4 5" 7 ∷ bad "raw 1 2 3 4 5 18446744073709551616" 7
     -- how many times
     ∷ good "halt 1 * 2" 2 (call 7 1 0) ∷ good "halt 1 * 0xffffffff # all" 4294967295 (call 7 1 0)

@@ -14,7 +14,9 @@ use Rattle.scan.specs.Numbers.{number}
 use Rattle.textin.specs.declared.Reading.{Reading}
 use Rattle.textin.specs.declared.Line.{Line}
 use Rattle.kinds.specs.declared.Input.{Input}
-use Rattle.kinds.specs.Names.{kindOf, fieldsOf, inputOf}
+use Rattle.kinds.specs.declared.Named.{Named}
+use Rattle.kinds.specs.declared.Named.the-variants.{Kind, Raw, Nothing}
+use Rattle.kinds.specs.Names.{kindOf, fieldsOf, rawFields, inputOf}
 
 -- ---- events
 
@@ -67,11 +69,14 @@ spoilt s = at 6 (wantedBy s) (s .times) (s .event)
 
 -- ---- one word
 
+-- by what the first word names: kind 0 is a step; the first field of `raw` is the kind
+unfoldable pub begun : Reading → Named → Reading
+begun s (Kind k) = cond (eqb k 0) (at 2 0 1 (call 0 0 0)) (at 1 (fieldsOf k) 1 (call k 0 0))
+begun s Raw = at 1 rawFields 1 (call 0 0 0)
+begun s Nothing = spoilt s
+
 unfoldable pub takeKind : Reading → List ℕ → Reading
-takeKind s w =
-    cond (eqb (kindOf w) 31) (spoilt s)
-    (cond (eqb (kindOf w) 0) (at 2 0 1 (call 0 0 0))
-    (at 1 (fieldsOf (kindOf w)) 1 (call (kindOf w % 30) 0 0)))
+takeKind s w = begun s (kindOf w)
 
 unfoldable pub takeField : Reading → List ℕ → Reading
 takeField s w =

@@ -12,6 +12,7 @@ use crate::Line;
 use crate::Reading;
 use calls::Event;
 use kinds::Input;
+use kinds::Named;
 
 // Where a line stands.
 const START: u32 = 0;
@@ -169,18 +170,21 @@ impl Reading {
         at(BAD, wanted, self.times, self.event)
     }
 
-    // The word is a kind.
+    // The first word of the line, by what it names.
     fn take_kind(self, w: &[u8]) -> Reading
         ensures { λ r. ⌜ r ≡ takeKind self (now (w .entry)) ⌝ }
     {
-        let k = kinds::kind_of(w);
-        if k == 31 {
-            return self.spoilt();
+        let named = kinds::kind_of(w);
+        match named {
+            Named::Kind(k) => {
+                if k == 0 {
+                    return at(STEP, 0, 1, of_kind(0));
+                }
+                at(FIELDS, kinds::fields_of(k), 1, of_kind(k))
+            }
+            Named::Raw => at(FIELDS, kinds::RAW_FIELDS, 1, of_kind(0)),
+            Named::Nothing => self.spoilt(),
         }
-        if k == 0 {
-            return at(STEP, 0, 1, of_kind(0));
-        }
-        at(FIELDS, kinds::fields_of(k), 1, of_kind((k % 30) as u8))
     }
 
     // The word is a field's number.

@@ -9,8 +9,8 @@ use lib.Dec.{eqb, eqb·zero-suc, eqb·suc-zero, eqb·suc-suc}
 use lib.Bits.{bitAnd, bitOr, bitXor, and-shr, or-shr, xor-shr, and-mod, or-mod, xor-mod}
 use lib.Arith.{mod-mul}
 use lib.Pow.{pow-pos, shl-exact}
-use borrow.Author.Tests.{ne-eqb}
-use Rattle.words.specs.Bits.{bit, flag, word, some}
+use borrow.Author.Tests.{eq-eqb, ne-eqb}
+use Rattle.words.specs.Bits.{bit, flag, word, some, putBit}
 
 pub flag-lt : (t : Bool) → flag t < 2
 flag-lt true = omega arith
@@ -18,16 +18,16 @@ flag-lt false = omega arith
 
 -- ---- a number by its lowest bit and its half
 
-bit-suc : (v i : ℕ) → bit v (suc i) ≡ bit (v / 2) i
+pub bit-suc : (v i : ℕ) → bit v (suc i) ≡ bit (v / 2) i
 unfolding bit
 bit-suc v i = ap (λ m. eqb (m % 2) 1) (ap (λ k. v / k) (pow-suc 2 i ∙ mul-comm (2 ^ i) 2) ∙ sym (div-div-eq-div-mul v 2 (2 ^ i)))
 
-bit-zero : (t : Bool) (n : ℕ) → bit (flag t + 2 * n) 0 ≡ t
+pub bit-zero : (t : Bool) (n : ℕ) → bit (flag t + 2 * n) 0 ≡ t
 unfolding bit
 bit-zero true n = ap (λ m. eqb m 1) (let h : (1 + 2 * n) / 1 % 2 ≡ 1 = omega arith in h)
 bit-zero false n = ap (λ m. eqb m 1) (let h : (0 + 2 * n) / 1 % 2 ≡ 0 = omega arith in h)
 
-half : (t : Bool) (n : ℕ) → (flag t + 2 * n) / 2 ≡ n
+pub half : (t : Bool) (n : ℕ) → (flag t + 2 * n) / 2 ≡ n
 half true n = omega arith
 half false n = omega arith
 
@@ -44,7 +44,7 @@ digit P p q v = at (v % 2) (mod-lt v (zero-lt-suc 1))
     at (suc zero) h = q
     at (suc (suc d)) h = absurd (not-suc-le-zero (le-of-suc-le-suc (le-of-suc-le-suc h)))
 
-low : (v : ℕ) → v % 2 ≡ flag (bit v 0)
+pub low : (v : ℕ) → v % 2 ≡ flag (bit v 0)
 unfolding bit
 low v = ap (λ m. m % 2) (let h : v ≡ v / 1 = omega arith in h) ∙ digit (λ d. d ≡ flag (eqb d 1)) refl refl (v / 1)
 
@@ -67,6 +67,14 @@ unfolding word
 word-ext zero f g h = refl
 word-ext (suc n) f g h =
     ap₂ (λ t m. flag t + 2 * m) (h zero (suc-le-suc zero-le)) (word-ext n (λ i. f (suc i)) (λ i. g (suc i)) (λ i k. h (suc i) (suc-le-suc k)))
+
+-- a bit put in its place stands there alone
+module _ (n p : ℕ) (t : Bool) (w : ℕ) where
+  pub bit-there : p < n → bit (putBit n p t w) p ≡ t
+  bit-there h = bit-word n _ p h ∙ ap (λ u. cond u t (bit w p)) (eq-eqb p p refl)
+
+  pub bit-elsewhere : (i : ℕ) → i < n → (i ≡ p → ⊥) → bit (putBit n p t w) i ≡ bit w i
+  bit-elsewhere i h d = bit-word n _ i h ∙ ap (λ u. cond u t (bit w i)) (ne-eqb i p d)
 
 -- a number cut to n bits is the word of its bits
 pub word-of : (n v : ℕ) → v % 2 ^ n ≡ word n (bit v)

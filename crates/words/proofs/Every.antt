@@ -1,19 +1,22 @@
--- Laws of what holds at each of n places, and of a value put in its range.
+-- Laws of what holds at each of n places, and of values put in their range.
 -- Assumes nothing.
 use mathlib.Core.Path.{_≡_, refl, sym, ap, ap₂, _∙_}
 use mathlib.Core.Bool.{Bool, true, false, not, _&&_, and-eq-true-iff}
+use mathlib.Core.List.{List}
 use Prim.Native.Nat.{ℕ, zero, suc, _+_, _<_}
 use native.Mathlib.Nat.{not-suc-le-zero, mod-eq-of-lt}
 use native.Mathlib.Numerals.{add-one}
 use native.Mathlib.Omega.{arith}
 use lib.Dec.{eqb}
+use lib.ListN.{length, getD}
 use lib.Pow.{pow-pos}
 use borrow.Author.Count.{below-more}
 use borrow.Author.Tests.{eqb-true, eq-eqb, not-true}
 use Rattle.words.specs.Bits.{bit, word, every}
-use Rattle.words.specs.Range.{orReset}
+use Rattle.words.specs.Range.{orReset, allGood, allOrReset}
 use Rattle.words.proofs.BitLaws.{bit-word, bit-none, is-word}
-use Rattle.words.proofs.Cases.{tested}
+use Rattle.words.proofs.Cases.{tested, taken}
+use Rattle.words.proofs.Tables.{tab-same, length-tab, getD-tab}
 
 pub every-at : (n : ℕ) (f : ℕ → Bool) → every n f ≡ true → (i : ℕ) → i < n → f i ≡ true
 unfolding every
@@ -53,3 +56,33 @@ word-none n f =
 -- a value put in its range is in it, if the value at reset is
 pub reset-good : {A : Type 0} (good : A → Bool) (reset : A) → good reset ≡ true → (x : A) → good (orReset good reset x) ≡ true
 reset-good good reset h x = tested (λ y. good y ≡ true) (good x) (λ k. k) (λ _. h)
+
+-- ---- n values in their range
+
+pub record AllGood (good : ℕ → Bool) (n : ℕ) (l : List ℕ) : Type 0 where
+  pub places : length l ≡ n
+  pub each : (i : ℕ) → i < n → good (getD l i 0) ≡ true
+
+module _ {good : ℕ → Bool} {n : ℕ} {l : List ℕ} where
+  pub good-each : allGood good n l ≡ true → AllGood good n l
+  unfolding allGood
+  good-each h =
+      let both = and-eq-true-iff (eqb (length l) n) _ .0 h in
+      record { places = eqb-true (length l) n (both .0); each = every-at n _ (both .1) }
+
+  pub good-all : AllGood good n l → allGood good n l ≡ true
+  unfolding allGood
+  good-all r = rw (eq-eqb (length l) n (r .places)) (every-by n _ (r .each))
+
+  -- such values stay as they are
+  pub good-same : (reset : ℕ) → AllGood good n l → allOrReset good reset n l ≡ l
+  unfolding allOrReset
+  good-same reset r = tab-same n _ l 0 (r .places) (λ i k. taken (getD l i 0) reset (r .each i k))
+
+-- and any values become such
+pub good-reset : (good : ℕ → Bool) (reset n : ℕ) (l : List ℕ) → good reset ≡ true → AllGood good n (allOrReset good reset n l)
+unfolding allOrReset
+good-reset good reset n l h = record {
+  places = length-tab n _;
+  each = λ i k. rw getD-tab (reset-good good reset h (getD l i 0));
+}

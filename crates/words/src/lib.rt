@@ -3,7 +3,7 @@
 // 2^48, so it takes every u64.
 ghost use mathlib.Core.Path.{_≡_};
 ghost use Prim.Native.Nat.{_-_, _<_};
-ghost use mathlib.Core.Bool.{not, cond, _||_, _&&_};
+ghost use mathlib.Core.Bool.{not, cond, _||_, _&&_, Bool·beq};
 ghost use lib.Dec.{eqb, ltb};
 ghost use Rattle.words.specs.Bits.{bit, flag, flags, word, putBit};
 ghost use Rattle.words.specs.Range.{orReset};
@@ -78,6 +78,20 @@ pub fn without(a: u64, b: u64) -> u64
     ensures { λ r. ⌜ r ≡ word 48 (λ p. bit a p && not (bit b p)) ⌝ }
 {
     (a ^ (a & b)) % WORDS
+}
+
+// The bits in which `a` and `b` differ.
+pub fn differ(a: u64, b: u64) -> u64
+    ensures { λ r. ⌜ r ≡ word 48 (λ p. not (Bool·beq (bit a p) (bit b p))) ⌝ }
+{
+    (a ^ b) % WORDS
+}
+
+// The bits of `w` that a word has.
+pub fn cut(w: u64) -> u64
+    ensures { λ r. ⌜ r ≡ word 48 (bit w) ⌝ }
+{
+    w % WORDS
 }
 
 // `a` where `m` is 1, else `b`.

@@ -2,6 +2,7 @@
 -- Assumes nothing.
 use mathlib.Core.Path.{ap, sym, _∙_}
 use Rattle.board.proofs.Checks.{named, on-board, refused-call, passes, passed-call}
+use Rattle.board.proofs.Same.{board-pins}
 use Rattle.board.specs.Respond.{refusalBy, outcome}
 use Rattle.board.specs.declared.Class.the-variants.{OnChannel, OnPin, OnVirtual, OnBoard}
 use borrow.Author.Needs.{needs}
@@ -41,7 +42,8 @@ unfolding refusalBy
 pin-event-requires c κs =
     let r = c .before .before .before in
     let a = r .before .before .args in
-    named 48 _ (a .e) (passes (a .self) (a .e) _ _ (r .before .class-of .ensures) (r .refusal .ensures) OnPin (c .enum-told2 .given .1) (c .before .before .if1 .left))
+    let member = named 48 _ (a .e) (passes (a .self) (a .e) _ _ (r .before .class-of .ensures) (r .refusal .ensures) OnPin (c .enum-told2 .given .1) (c .before .before .if1 .left)) in
+    (member, board-pins (a .self) (r .before .before .pre))
 
 enum-told-3 : tie.Need-enum-told-3
 enum-told-3 c = search needs

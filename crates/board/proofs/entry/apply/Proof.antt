@@ -13,6 +13,7 @@ use Rattle.board.specs.declared.Board.{Board}
 use Rattle.board.specs.declared.Outcome.{Outcome}
 use Rattle.board.proofs.Steps.{of-step, of-call}
 use Rattle.board.proofs.Kept.{stored}
+use Rattle.board.proofs.Same.{board-repaired}
 use Rattle.board.proofs.entry.apply.Statement.{statement}
 use Rattle.board.proofs.entry.apply.Tie as tie
 
@@ -50,7 +51,9 @@ returns c =
     (of-stepped (a .board) (a .event) (sym (test .is-step .ensures) ∙ c .before .before .if1 .taken))
 
 call-requires : tie.Need-call-requires
-call-requires c κs = search needs
+call-requires c κs =
+    let mended = c .before .before .mended .ensures in
+    rw mended (board-repaired (c .before .before .before .args .board))
 
 kept-requires : tie.Need-kept-requires
 kept-requires c κs = search needs

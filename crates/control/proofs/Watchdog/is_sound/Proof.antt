@@ -4,6 +4,7 @@ use mathlib.Core.Path.{_≡_, sym, _∙_}
 use lib.ListN.{length, length-map}
 use borrow.Author.Tests.{eq-eqb}
 use Rattle.words.specs.Bits.{every}
+use Rattle.words.specs.Range.{allGood}
 use Rattle.control.specs.Watchdog.{watchdogInRange}
 use borrow.Author.Needs.{needs}
 use Rattle.control.proofs.Watchdog.is_sound.Statement.{statement}
@@ -19,7 +20,7 @@ array-read-result-3 : tie.Need-array-read-result-3
 array-read-result-3 c = search needs
 
 returns : tie.Need-returns
-unfolding watchdogInRange every
+unfolding watchdogInRange allGood every
 returns c =
     let start = c .before .before in
     let i = start .args .self .intervals in

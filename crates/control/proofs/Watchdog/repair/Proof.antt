@@ -1,5 +1,6 @@
 -- `control::Watchdog::repair` meets its contract.
 -- Assumes nothing.
+use Rattle.words.specs.Range.{allOrReset}
 use Rattle.words.specs.Table.{tab}
 use Rattle.control.specs.Watchdog.{repairedWatchdog}
 use borrow.Author.Needs.{needs}
@@ -28,7 +29,7 @@ below-requires : tie.Need-below-requires
 below-requires c κs = search needs
 
 returns : tie.Need-returns
-unfolding repairedWatchdog tab
+unfolding repairedWatchdog allOrReset tab
 returns c =
     let third = c .before .before in
     rw (c .below .ensures, third .sound-interval3 .ensures, third .before .sound-interval2 .ensures, third .before .before .sound-interval .ensures)

@@ -9,7 +9,8 @@ use lib.ListN.{length, getD}
 use borrow.Author.Tests.{eq-eqb}
 use Rattle.words.specs.Bits.{every}
 use Rattle.words.proofs.Every.{every-on}
-use Rattle.counter.specs.Repair.{isReasons, areReasons}
+use Rattle.words.specs.Range.{allGood}
+use Rattle.counter.specs.Repair.{isReasons}
 use borrow.Author.Needs.{needs}
 use Rattle.counter.proofs.queue.are_reasons.Statement.{statement}
 use Rattle.counter.proofs.queue.are_reasons.Tie as tie
@@ -47,7 +48,7 @@ loop-again c =
     (omega arith, ap (λ s. s && good a (l .i)) (l .inv .1) ∙ sym (every-on (l .i) (good a)))
 
 returns : tie.Need-returns Inv-loop μ-loop
-unfolding areReasons
+unfolding allGood
 returns c =
     let a = c .before .before .args .t1 in
     let e : c .before .loop .i ≡ 16 = omega arith in

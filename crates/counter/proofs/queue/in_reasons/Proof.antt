@@ -5,10 +5,10 @@ use mathlib.Core.List.{List, _++_}
 use Prim.Native.Nat.{ℕ, _-_, _≤_}
 use native.Mathlib.Omega.{arith}
 use lib.ListN.{getD, drop}
-use Rattle.counter.specs.Repair.{isReasons, inReasons}
+use Rattle.counter.specs.Repair.{isReasons}
 use Rattle.words.proofs.Tables.{filled-on, filled-all}
 use Rattle.words.specs.Table.{tab}
-use Rattle.words.specs.Range.{orReset}
+use Rattle.words.specs.Range.{orReset, allOrReset}
 use borrow.Author.Needs.{needs}
 use Rattle.counter.proofs.queue.in_reasons.Statement.{statement}
 use Rattle.counter.proofs.queue.in_reasons.Tie as tie
@@ -54,7 +54,7 @@ loop-again c = let l = c .before .before .loop in
     (omega arith, filled-on (l .i) (ranged a) a (l .b) _ (omega (arith, c .before .before .before .good .0 .1)) (l .inv .1) (c .below .ensures))
 
 returns : tie.Need-returns Inv-loop μ-loop
-unfolding inReasons
+unfolding allOrReset
 returns c = let a = c .before .before .args .t1 in
     let e : c .before .loop .i ≡ 16 = omega arith in
     c .before .loop .inv .1 ∙ rw e (filled-all 16 (ranged a) a (omega (arith, c .before .before .good .0 .1)))

@@ -41,6 +41,12 @@ mended-requires-2 c κs = search needs
 mended-requires-3 : tie.Need-mended-requires-3
 mended-requires-3 c κs = search needs
 
+pin-words-requires : tie.Need-pin-words-requires
+pin-words-requires c κs = search needs
+
+pin-words-requires-2 : tie.Need-pin-words-requires-2
+pin-words-requires-2 c κs = search needs
+
 returns : tie.Need-returns
 unfolding repairedPins repairedSources repairedWords resetPins pinAt
 returns c =
@@ -55,7 +61,9 @@ returns c =
     let c₉ = c₈ .before in
     let c₁₀ = c₉ .before in
     let c₁₁ = c₁₀ .before in
-    rw (c .mended3 .ensures, c₁ .mended2 .ensures, c₂ .mended .ensures, c₃ .pin-word8 .ensures, c₄ .all .ensures, c₅ .pin-word7 .ensures, c₆ .pin-word6 .ensures, c₇ .pin-word5 .ensures, c₈ .pin-word4 .ensures, c₉ .pin-word3 .ensures, c₁₀ .pin-word2 .ensures, c₁₁ .pin-word .ensures)
+    let c₁₂ = c₁₁ .before in
+    let c₁₃ = c₁₂ .before in
+    rw (c .pin-words2 .ensures, c₁ .pin-words .ensures, c₂ .mended3 .ensures, c₃ .mended2 .ensures, c₄ .mended .ensures, c₅ .pin-word8 .ensures, c₆ .all .ensures, c₇ .pin-word7 .ensures, c₈ .pin-word6 .ensures, c₉ .pin-word5 .ensures, c₁₀ .pin-word4 .ensures, c₁₁ .pin-word3 .ensures, c₁₂ .pin-word2 .ensures, c₁₃ .pin-word .ensures)
 
 pub repair-spec : {M : Type 1} → statement M
 repair-spec =
@@ -73,4 +81,6 @@ repair-spec =
     mended-requires
     mended-requires-2
     mended-requires-3
+    pin-words-requires
+    pin-words-requires-2
     returns)

@@ -1,4 +1,4 @@
--- `kinds::place_of` meets its contract.
+-- `kinds::by_name` meets its contract.
 -- Assumes nothing.
 use mathlib.Core.Path.{_≡_, refl, sym, _∙_}
 use Prim.Native.Nat.{_-_, _≤_}
@@ -7,17 +7,17 @@ use lib.ListN.{drop}
 use borrow.Author.Needs.{needs}
 use Rattle.words.specs.Table.{tab}
 use Rattle.scan.specs.Bytes.{ascii}
-use Rattle.kinds.specs.Names.{names, placeOf}
-use Rattle.kinds.proofs.Names.{place-here, place-next}
+use Rattle.kinds.specs.Names.{kinds, names, kindIn}
+use Rattle.kinds.proofs.Names.{kind-here, kind-next}
 use Rattle.kinds.proofs.Row.{row, start, part-name, start-next, start-in}
-use Rattle.kinds.proofs.place_of.Statement.{statement}
-use Rattle.kinds.proofs.place_of.Tie as tie
+use Rattle.kinds.proofs.by_name.Statement.{statement}
+use Rattle.kinds.proofs.by_name.Tie as tie
 
 abbrev Inv-loop : tie.InvT-loop
-Inv-loop w all k₀ k = (k ≤ 31) × (placeOf w names 0 ≡ placeOf w (drop k names) k)
+Inv-loop w all k₀ k = (k ≤ kinds) × (kindIn w names 0 ≡ kindIn w (drop k names) k)
 
 abbrev μ-loop : tie.MeasureT-loop
-μ-loop w all k₀ k = 31 - k
+μ-loop w all k₀ k = kinds - k
 
 loop-holds : tie.Need-loop-holds Inv-loop μ-loop
 loop-holds c = (omega arith, refl)
@@ -52,15 +52,15 @@ part-same-end c = start-in (c .before .before .loop .k) (omega arith)
 same-requires : tie.Need-same-requires Inv-loop μ-loop
 same-requires c κs = search needs
 
-cast-result : tie.Need-cast-result Inv-loop μ-loop
-cast-result c = omega arith
+cast-t22 : tie.Need-cast-t22 Inv-loop μ-loop
+cast-t22 c = omega arith
 
 returns : tie.Need-returns Inv-loop μ-loop
 unfolding start row ascii tab
 returns c =
     let turn = c .before .before .before .before .before .loop in
     let e = rw (part-name (turn .k) (omega arith)) at (c .before .same .ensures) in
-    sym (turn .inv .1 ∙ place-here _ (turn .k) (omega arith) (sym e ∙ c .if1 .taken))
+    sym (turn .inv .1 ∙ kind-here _ (turn .k) (omega arith) (sym e ∙ c .if1 .taken))
 
 add-k : tie.Need-add-k Inv-loop μ-loop
 add-k c = omega arith
@@ -73,16 +73,16 @@ unfolding start row ascii tab
 loop-again c =
     let turn = c .before .before .before .before .before .loop in
     let e = rw (part-name (turn .k) (omega arith)) at (c .before .same .ensures) in
-    (omega arith, turn .inv .1 ∙ place-next _ (turn .k) (omega arith) (sym e ∙ c .if1 .left))
+    (omega arith, turn .inv .1 ∙ kind-next _ (turn .k) (omega arith) (sym e ∙ c .if1 .left))
 
 returns-2 : tie.Need-returns-2 Inv-loop μ-loop
-unfolding placeOf names
+unfolding kindIn names
 returns-2 c =
-    let e : c .before .loop .k ≡ 31 = omega arith in
+    let e : c .before .loop .k ≡ kinds = omega arith in
     sym (c .before .loop .inv .1 ∙ rw e)
 
-pub place-of-spec : {M : Type 1} → statement M
-place-of-spec =
+pub by-name-spec : {M : Type 1} → statement M
+by-name-spec =
     tie.close
     (tie.spec
     Inv-loop
@@ -97,7 +97,7 @@ place-of-spec =
     part-same-start
     part-same-end
     same-requires
-    cast-result
+    cast-t22
     returns
     add-k
     loop-less
