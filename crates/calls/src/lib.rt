@@ -1,4 +1,4 @@
-// Events and answers, the field checks, and the calls 1 to 29, each on the record of the channel,
+// Events and answers, the field checks, and the calls 1 to 30, each on the record of the channel,
 // pin, virtual output or board part that it names. The calls come after the checks of fields and of
 // SWE, which decide results 3 and 12 for all of them in one place.
 ghost use mathlib.Core.Path.{_≡_};
