@@ -4,14 +4,13 @@ use mathlib.Core.Path.{_≡_, refl, ap, sym, _∙_}
 use mathlib.Core.Bool.{Bool, true, false, cond}
 use mathlib.Core.List.{List}
 use Prim.Native.Nat.{ℕ, _^_, _<_}
-use native.Mathlib.Nat.{mod-eq-of-lt}
 use native.Mathlib.Omega.{arith}
 use lib.Dec.{eqb}
 use lib.ListN.{length, getD, replicate}
 use borrow.Author.Tests.{eqb-true}
 use Rattle.words.specs.Bits.{bit, word, every}
 use Rattle.words.specs.Table.{tab}
-use Rattle.words.proofs.BitLaws.{bit-word, word-ext, word-of, word-lt}
+use Rattle.words.proofs.BitLaws.{bit-word, word-ext, word-own, word-lt}
 use Rattle.words.proofs.Every.{every-at}
 use Rattle.words.proofs.Tables.{getD-tab, tab-ext, tab-same}
 use Rattle.filters.specs.Planes.{numberAt, planeOf, planes}
@@ -35,14 +34,14 @@ unfolding numberAt planes
 number-held f p h = word-ext 16 _ (bit (f p)) (λ j l. ap (λ v. bit v p) (getD-tab 16 (planeOf f) j 0 l) ∙ bit-word 48 _ p h)
 
 pub number-planes : (f : ℕ → ℕ) (p : ℕ) → p < 48 → f p < 2 ^ 16 → numberAt (planes f) p ≡ f p
-number-planes f p h k = number-held f p h ∙ sym (word-of 16 (f p)) ∙ mod-eq-of-lt k
+number-planes f p h k = number-held f p h ∙ word-own 16 (f p) k
 
 -- planes of 48 bits are those of their numbers
 pub planes-own : (x : List ℕ) → length x ≡ 16 → ((j : ℕ) → j < 16 → getD x j 0 < 2 ^ 48) → planes (numberAt x) ≡ x
 unfolding planes
 planes-own x s h =
     tab-same 16 (planeOf (numberAt x)) x 0 s
-    (λ j k. word-ext 48 _ (bit (getD x j 0)) (λ p l. bit-number x p j k) ∙ sym (word-of 48 (getD x j 0)) ∙ mod-eq-of-lt (h j k))
+    (λ j k. word-ext 48 _ (bit (getD x j 0)) (λ p l. bit-number x p j k) ∙ word-own 48 (getD x j 0) (h j k))
 
 -- at 0 all of them are 0
 pub zeros : planes (λ p. 0) ≡ replicate 16 0

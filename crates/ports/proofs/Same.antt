@@ -1,13 +1,12 @@
 -- Pins and virtual outputs in range, field by field. The repair leaves such records alone, and makes them.
 -- Assumes nothing.
-use mathlib.Core.Path.{_≡_, refl, sym, ap, _∙_}
+use mathlib.Core.Path.{_≡_, refl, ap, _∙_}
 use mathlib.Core.Bool.{Bool, true, false, not, _&&_, and-true, and-eq-true-iff}
 use Prim.Native.Nat.{ℕ, _^_, _<_}
-use native.Mathlib.Nat.{mod-eq-of-lt}
 use lib.Dec.{eqb}
 use borrow.Author.Tests.{ltb-true, lt-ltb}
 use Rattle.words.specs.Bits.{bit, word, every}
-use Rattle.words.proofs.BitLaws.{bit-word, word-of, word-ext, word-lt}
+use Rattle.words.proofs.BitLaws.{bit-word, word-own, word-ext, word-lt}
 use Rattle.words.proofs.Every.{every-at, every-by, every-ext, word-none, reset-good, AllGood, good-each, good-all, good-same, good-reset}
 use Rattle.words.proofs.Tables.{length-tab, getD-tab}
 use Rattle.filters.specs.Planes.{planes}
@@ -85,7 +84,7 @@ module _ (x : Pins) (r : PinsInRange x) where
 
   plane-same : (s : ℕ) → isPinWord s ≡ true → mended x s ≡ s
   plane-same s h =
-      word-ext 48 _ (bit s) (λ p k. ap (λ t. bit s p && t) (r .source p k) ∙ and-true (bit s p)) ∙ sym (word-of 48 s) ∙ mod-eq-of-lt (ltb-true s (2 ^ 48) h)
+      word-ext 48 _ (bit s) (λ p k. ap (λ t. bit s p && t) (r .source p k) ∙ and-true (bit s p)) ∙ word-own 48 s (ltb-true s (2 ^ 48) h)
 
   sources-same : repairedSources x ≡ x
   unfolding repairedSources

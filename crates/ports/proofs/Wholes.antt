@@ -5,11 +5,10 @@ use mathlib.Core.Path.{_≡_, refl, ap, sym, _∙_}
 use mathlib.Core.Bool.{Bool, true, false, cond}
 use mathlib.Core.List.{List}
 use Prim.Native.Nat.{ℕ, _^_, _<_}
-use native.Mathlib.Nat.{mod-eq-of-lt}
 use lib.Dec.{eqb}
 use borrow.Author.Tests.{eq-eqb, ne-eqb, eqb-true, ltb-true}
 use Rattle.words.specs.Bits.{bit, word, putBit}
-use Rattle.words.proofs.BitLaws.{bit-word, word-ext, word-of, bit-there, bit-elsewhere}
+use Rattle.words.proofs.BitLaws.{bit-word, word-ext, word-own, bit-there, bit-elsewhere}
 use Rattle.words.proofs.Every.{AllGood}
 use Rattle.filters.specs.Planes.{numberAt, putNumber}
 use Rattle.filters.specs.Filters.{Filtering, followed, filteringAt, filtered, putFilter}
@@ -51,7 +50,7 @@ module _ (p n : ℕ) (y : List ℕ) where
 
   number-elsewhere : (i : ℕ) → i < 48 → (i ≡ p → ⊥) → numberAt (putNumber p n y) i ≡ numberAt y i
   number-elsewhere i h d =
-      number-held _ i h ∙ ap (λ u. word 16 (bit (cond u n (numberAt y i)))) (ne-eqb i p d) ∙ sym (word-of 16 (numberAt y i)) ∙ mod-eq-of-lt (number-lt y i)
+      number-held _ i h ∙ ap (λ u. word 16 (bit (cond u n (numberAt y i)))) (ne-eqb i p d) ∙ word-own 16 (numberAt y i) (number-lt y i)
 
 module _ (x : Pins) (p : ℕ) (q : WholePin) where
   pub whole-there : p < 48 → wholeAt (putWhole p q x) p ≡ storedWhole q
@@ -73,7 +72,7 @@ at-own f p q = go (eqb q p) refl
     go false e = refl
 
 own-bit : (w p : ℕ) → isPinWord w ≡ true → putBit 48 p (bit w p) w ≡ w
-own-bit w p h = word-ext 48 _ (bit w) (λ q _. at-own (bit w) p q) ∙ sym (word-of 48 w) ∙ mod-eq-of-lt (ltb-true w (2 ^ 48) h)
+own-bit w p h = word-ext 48 _ (bit w) (λ q _. at-own (bit w) p q) ∙ word-own 48 w (ltb-true w (2 ^ 48) h)
 
 own-number : (y : List ℕ) (p : ℕ) → AllGood isPinWord 16 y → putNumber p (numberAt y p) y ≡ y
 own-number y p r =

@@ -1,18 +1,18 @@
--- Request 6: each pin in a step, the calls of a filter, the filter by itself, and what stays as it was.
+-- Request 6: each pin in a step, the calls that read a level and write a filter, and the filter by itself.
 -- Assumes nothing.
 use mathlib.Core.Path.{_≡_, refl, sym, ap, _∙_, subst}
 use mathlib.Core.Bool.{Bool, true, false, cond, not, Bool·beq, true≢false}
 use mathlib.Core.Logic.{_↔_}
 use mathlib.Core.List.{List, [], _∷_, _++_, append-nil}
 use Prim.Native.Nat.{ℕ, zero, suc, _+_, _^_, _≤_, _<_, zero-le, suc-le-suc}
-use native.Mathlib.Nat.{mod-eq-of-lt, le-of-suc-le-suc, not-suc-le-zero}
+use native.Mathlib.Nat.{le-of-suc-le-suc, not-suc-le-zero}
 use native.Mathlib.Numerals.{add-one}
 use native.Mathlib.Omega.{arith}
 use lib.Dec.{eqb, ltb}
 use lib.ListN.{getD, replicate}
 use borrow.Author.Tests.{lt-ltb, ltb-true, ltb-false, eq-eqb}
-use Rattle.words.specs.Bits.{bit, word, flag}
-use Rattle.words.proofs.BitLaws.{word-of}
+use Rattle.words.specs.Bits.{bit, flag}
+use Rattle.words.proofs.BitLaws.{word-own}
 use Rattle.words.proofs.Cases.{either}
 use Rattle.filters.specs.Filters.{Filtering, followed}
 use Rattle.ports.specs.Pins.{pinAt, wholeAt, driven}
@@ -64,10 +64,6 @@ handed b = in-steps-handed-of Follows b (steps (repairedBoard b))
 
 -- ---- the calls
 
--- a number of 16 bits by its bits
-sixteen : (n : ℕ) → n < 2 ^ 16 → word 16 (bit n) ≡ n
-sixteen n h = sym (word-of 16 n) ∙ mod-eq-of-lt h
-
 module _ (b : Board) (e : Event) where
   -- a call of a pin, past its checks
   pub on-pin : (P : Reply Board → Type 0) → isStep e ≡ false → classOf (e .kind) ≡ OnPin → ((m : ℕ) → eqb m 0 ≡ false → P (refuse m b))
@@ -94,7 +90,7 @@ module _ (b : Board) (e : Event) where
         (λ m f.
         let small : e .v < 2 ^ 16 = ltb-true (e .v) _ (below-limit e f 30 (eq-eqb (e .kind) 30 k)) in
         rw (eq-eqb (e .kind) 30 k)
-        (ap filteringOf (whole-there (b .pins) (e .member) _ m) ∙ (λ i. record { level = levelOn b (e .member); filter = sixteen (e .v) small i; wait = sixteen 0 (omega arith) i })))
+        (ap filteringOf (whole-there (b .pins) (e .member) _ m) ∙ (λ i. record { level = levelOn b (e .member); filter = word-own 16 (e .v) small i; wait = word-own 16 0 (omega arith) i })))
         h;
     elsewhere = λ p i d.
         on-accepted (λ r. wholeAt (r .state .pins) p ≡ wholeAt (b .pins) p) (rw k refl) (rw k refl)

@@ -11,7 +11,7 @@ use Rattle.words.proofs.BitLaws.{bit-word, word-ext}
 use Rattle.filters.specs.Filters.{filtered, putFilter, resetFilters}
 use Rattle.filters.specs.declared.Filtered.{Filtered}
 use Rattle.filters.proofs.StepLaws.{no-filters, put-none}
-use Rattle.ports.specs.Setters.{withFilters}
+use Rattle.ports.specs.Setters.{withLevel, withFilters}
 use Rattle.ports.specs.Pins.{putPin, rawLevel, rawLevels, sensed, driven, resetPins}
 use Rattle.ports.specs.declared.Pins.{Pins}
 use Rattle.ports.proofs.Wholes.{put-own-filter, put-own-pin}
@@ -44,17 +44,7 @@ sensed-raw x w none =
     let levels : word 48 (bit (rawLevels x w)) ≡ rawLevels x w = word-ext 48 _ (rawLevel x w) (λ p h. bit-word 48 (rawLevel x w) p h) in
     let r : filtered (rawLevels x w) (x .level) (x .filters) ≡ record { filters = x .filters; level = rawLevels x w } =
     ap (filtered (rawLevels x w) (x .level)) none ∙ no-filters (rawLevels x w) (x .level) ∙ (λ i. record { filters = sym none i; level = levels i }) in
-    ap (λ (y : Filtered). record {
-      level = y .level;
-      driven = x .driven;
-      own = x .own;
-      safedata = x .safedata;
-      safeenable = x .safeenable;
-      source0 = x .source0;
-      source1 = x .source1;
-      source2 = x .source2;
-      filters = y .filters;
-    }) r
+    ap (λ (y : Filtered). withFilters (y .filters) (withLevel (y .level) x)) r
 
 stepped-raw : (v w : ℕ) (b : Board) → b .pins .filters ≡ resetFilters → stepped v w b ≡ steppedWithout6 v w b
 unfolding stepped stepWith

@@ -4,13 +4,13 @@ use mathlib.Core.Path.{_≡_, refl, ap, sym, _∙_}
 use mathlib.Core.Bool.{Bool, true, false, cond, _&&_}
 use mathlib.Core.List.{List, [], _∷_, _++_, append-assoc}
 use Prim.Native.Nat.{ℕ, zero, suc, _^_, _≤_, _<_}
-use native.Mathlib.Nat.{mod-eq-of-lt, zero-mod}
 use native.Mathlib.Omega.{arith}
 use borrow.Author.Tests.{lt-ltb, le-ltb, eq-eqb, ne-eqb}
 use lib.Dec.{eqb, ltb}
 use lib.ListN.{length}
+use lib.Pow.{pow-pos}
 use Rattle.words.specs.Bits.{bit, word, putBit}
-use Rattle.words.proofs.BitLaws.{bit-word, bit-none, word-ext, word-of}
+use Rattle.words.proofs.BitLaws.{bit-word, bit-none, word-ext, word-own}
 use Rattle.words.proofs.Cases.{either}
 use Rattle.buffers.specs.Pieces.{joined}
 use Rattle.buffers.proofs.Joined.{split}
@@ -63,12 +63,12 @@ no-bit size n v b = word-ext size _ _ each
 up-none : (size v : ℕ) → upTo size 0 v ≡ 0
 unfolding upTo
 up-none size v =
-    word-ext size _ _ (λ j k. rw (le-ltb j 0 (omega arith)) (sym (bit-none j))) ∙ sym (word-of size 0) ∙ zero-mod (2 ^ size)
+    word-ext size _ _ (λ j k. rw (le-ltb j 0 (omega arith)) (sym (bit-none j))) ∙ word-own size 0 (pow-pos size)
 
 -- all bits
 up-all : (size v : ℕ) → v < 2 ^ size → upTo size size v ≡ v
 unfolding upTo
-up-all size v h = word-ext size _ _ (λ j k. rw (lt-ltb j size k)) ∙ sym (word-of size v) ∙ mod-eq-of-lt h
+up-all size v h = word-ext size _ _ (λ j k. rw (lt-ltb j size k)) ∙ word-own size v h
 
 -- ---- the names of one word's bits
 

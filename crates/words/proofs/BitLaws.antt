@@ -3,7 +3,7 @@
 use mathlib.Core.Path.{_≡_, refl, ap, ap₂, sym, _∙_}
 use mathlib.Core.Bool.{Bool, true, false, cond, not, _&&_, _||_, Bool·beq}
 use Prim.Native.Nat.{ℕ, zero, suc, _+_, _-_, _*_, _/_, _%_, _^_, _<_, zero-le, suc-le-suc}
-use native.Mathlib.Nat.{le-of-suc-le-suc, not-suc-le-zero, div-div-eq-div-mul, pow-suc, mul-comm, zero-div, mod-lt, zero-lt-suc}
+use native.Mathlib.Nat.{le-of-suc-le-suc, not-suc-le-zero, div-div-eq-div-mul, pow-suc, mul-comm, zero-div, mod-lt, mod-eq-of-lt, zero-lt-suc}
 use native.Mathlib.Omega.{arith}
 use lib.Dec.{eqb, eqb·zero-suc, eqb·suc-zero, eqb·suc-suc}
 use lib.Bits.{bitAnd, bitOr, bitXor, and-shr, or-shr, xor-shr, and-mod, or-mod, xor-mod}
@@ -84,7 +84,11 @@ word-of (suc n) v =
     let e : v / 2 % 2 ^ n ≡ word n (λ i. bit v (suc i)) = word-of n (v / 2) ∙ word-ext n _ _ (λ i k. sym (bit-suc v i)) in
     ap (λ m. v % m) (pow-suc 2 n) ∙ mod-mul v (pow-pos n) (zero-lt-suc 1) ∙ ap₂ (λ x y. x * 2 + y) e (low v) ∙ omega arith
 
--- so it is the word of whatever its bits are
+-- a number of n bits is so itself
+pub word-own : (n v : ℕ) → v < 2 ^ n → word n (bit v) ≡ v
+word-own n v h = sym (word-of n v) ∙ mod-eq-of-lt h
+
+-- a number cut to n bits is the word of whatever its bits are
 pub is-word : (n v : ℕ) (f : ℕ → Bool) → ((i : ℕ) → i < n → bit v i ≡ f i) → v % 2 ^ n ≡ word n f
 is-word n v f h = word-of n v ∙ word-ext n (bit v) f h
 
