@@ -12,8 +12,11 @@
 //!                                tuned
 //!     bench log MODEL            prints the answers to a block file, as boardlog does; MODEL is
 //!                                plain or tuned
+//!     bench audit MODEL          prints the accounts of the captures of a block file, a line for
+//!                                each channel
 #![deny(unsafe_code)]
 
+mod audit;
 mod blocks;
 mod boardlog;
 mod compare;
@@ -58,6 +61,8 @@ fn main() -> ExitCode {
         ["count", case, side, n] => count_once(case, side, n),
         ["log", Plain::NAME] => log::<Plain>(),
         ["log", Tuned::NAME] => log::<Tuned>(),
+        ["audit", Plain::NAME] => audit::<Plain>(),
+        ["audit", Tuned::NAME] => audit::<Tuned>(),
         _ => Err("usage: see the head of bench/src/main.rs".into()),
     };
     match done {
@@ -191,6 +196,11 @@ fn count_once(name: &str, side: &str, n: &str) -> Result<(), String> {
 fn log<M: Mode>() -> Result<(), String> {
     log::log::<M>(std::io::stdin().lock(), std::io::stdout().lock())
         .map_err(|e| format!("log: {e}"))
+}
+
+fn audit<M: Mode>() -> Result<(), String> {
+    audit::audit::<M>(std::io::stdin().lock(), std::io::stdout().lock())
+        .map_err(|e| format!("audit: {e}"))
 }
 
 fn case(name: &str) -> Result<Case, String> {

@@ -2,6 +2,7 @@
 // board, by events that are accepted, refused, and answered 6, and by lists of these. Then each
 // field that has a range by itself. Then boards that no script reaches in a test's time, or whose
 // record tells more than a call does.
+mod accounts;
 mod lists;
 mod ranges;
 mod show;
@@ -20,9 +21,9 @@ use ports::Pins;
 use ports::Virtuals;
 use show::show;
 
-const ALL: u32 = 4294967295;
+pub const ALL: u32 = 4294967295;
 
-const EVERY: u64 = 18446744073709551615;
+pub const EVERY: u64 = 18446744073709551615;
 
 // A channel with every field outside its range.
 fn broken_channel(lost: u32) -> Channel {
@@ -270,4 +271,5 @@ fn main() {
     show_stages();
     waits::show_waits();
     ticks::show_ticks();
+    accounts::show_accounts();
 }

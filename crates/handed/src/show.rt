@@ -13,7 +13,7 @@ pub fn text(t: &[u8]) {
 }
 
 // A name and a number.
-fn number(name: &[u8], n: u64) {
+pub fn number(name: &[u8], n: u64) {
     text(name);
     io::print_decimal(STDOUT_FILENO, n);
 }

@@ -1,15 +1,18 @@
-// Runs written histories and compares. Standard input lists their names, one on a line, and for each
-// NAME the folder has NAME.txt, the history in the text form, NAME.log, what `boardlog` prints for
-// it, and, where levels are looked at, NAME.levels: a line for each output, x0 for ExtOut of channel
-// 0, d3 for the driven value of pin 3, p3 for its level, and behind it the steps, counted from 1,
-// after which it is high: `x0 3-8 13`. A line that starts with # is a comment there. Each name is
-// repeated with the number of answers and of levels that agree; a difference is told with the files,
-// the lines, what was expected and what came. A file that cannot be read, or is longer than there is
+// Runs written histories and compares. Standard input lists their names, one on a line, and for
+// each NAME the folder has NAME.txt, the history in the text form, NAME.log, what `boardlog` prints
+// for it, and, where levels are looked at, NAME.levels: a line for each output, x0 for ExtOut of
+// channel 0, d3 for the driven value of pin 3, p3 for its level, and behind it the steps, counted
+// from 1, after which it is high: `x0 3-8 13`. A line that starts with # is a comment there. Each
+// name is repeated with the number of answers and of levels that agree, and behind it stand the
+// accounts of the captures of each channel that has one; a difference is told with the files, the
+// lines, what was expected and what came. A file that cannot be read, or is longer than there is
 // room for, is told in place of a run. What fails on standard input or output is told on standard
 // error and ends the program.
 ghost use mathlib.Core.Path.{_≡_};
 ghost use Prim.Native.Nat.{_+_, _<_, _≤_};
 ghost use lib.ListN.{length};
+use account::Audit;
+use account::Balance;
 use board::Board;
 use calls::Event;
 use libc::EACCES;
@@ -591,7 +594,61 @@ fn look_all(open: &mut bool, name: &[u8], text: &[u8], levels: &[u8], out: &mut 
     say(open, b" levels\n");
 }
 
-// Runs a history, and compares its answers and then its levels.
+// Sends an event so many times, with the accounts kept.
+fn audit_times(a: Audit, e: Event, times: u32) -> Audit {
+    let mut next = a;
+    let mut i: u32 = 0;
+    while i < times {
+        next = next.send(e);
+        i += 1;
+    }
+    next
+}
+
+// Prints a number and what it is.
+fn say_count(open: &mut bool, n: u64, what: &[u8]) {
+    say_number(open, n);
+    say(open, what);
+}
+
+// Tells the account of a channel.
+fn tell_balance(open: &mut bool, channel: usize, n: Balance) {
+    say(open, b"  channel ");
+    say_count(open, channel as u64, b": ");
+    say_count(open, n.made, b" made, ");
+    say_count(open, n.handed, b" handed out, ");
+    say_count(open, n.held, b" held, ");
+    say_count(open, n.reported, b" reported, ");
+    say_count(open, n.unreported, b" unreported\n");
+}
+
+// Tells the account of each channel that has one.
+fn tell_accounts(open: &mut bool, a: Audit) {
+    let accounts = a.accounts;
+    let board = a.board;
+    let channels = board.channels;
+    for i in 0..board::CHANNELS {
+        let n = account::balance_of(accounts[i], channels[i]);
+        if (n.made | n.handed | n.held | n.reported | n.unreported) != 0 {
+            tell_balance(open, i, n);
+        }
+    }
+}
+
+// Runs a text, and tells its accounts.
+fn audit_text(open: &mut bool, text: &[u8]) {
+    let mut a = account::start();
+    let mut from: usize = 0;
+    while from <= text.len() {
+        let to = scan::part_end(text, from, false);
+        let said = textin::read_line(&text[from..to]);
+        a = audit_times(a, said.event, said.times);
+        from = to + 1;
+    }
+    tell_accounts(open, a);
+}
+
+// Runs a history, compares its answers and then its levels, and audits it.
 fn compare(open: &mut bool, name: &[u8], text: &[u8], log: &[u8], levels: &[u8], out: &mut [u8])
     requires { ⌜ length (now log) ≤ 65536 ⌝ }
     requires { ⌜ length (now levels) ≤ 65536 ⌝ }
@@ -599,6 +656,7 @@ fn compare(open: &mut bool, name: &[u8], text: &[u8], log: &[u8], levels: &[u8],
 {
     if run_answers(open, name, text, log) {
         look_all(open, name, text, levels, out);
+        audit_text(open, text);
     }
 }
 

@@ -2,6 +2,8 @@
 // `log NAME`: the lines printed for NAME.hist are those of NAME.log.
 // `read NAME ROOM RESULT BYTES`: so the reader answers NAME.hist with so many bytes of room.
 // `write LENGTH ROOM RESULT BYTES`: so the writer answers a history of so many zero bytes.
+// `audit NAME`: the accounts of the history of NAME.hist, a line for each channel that has one: the
+// channel, captures made, handed out, held, reported and not yet reported.
 // `long BLOCKS TAIL RESULT PLACE`: the log of so many full blocks of accepted steps and, behind
 // them, so many zero bytes (at most 512) ends at this place with this result. The log is empty for
 // result 0, else only the line of this place. The blocks are made one by one and not kept.
@@ -13,7 +15,11 @@
 ghost use mathlib.Core.Path.{_≡_};
 ghost use Prim.Native.Nat.{_+_, _<_, _≤_};
 ghost use lib.ListN.{length};
+use account::Audit;
+use account::Balance;
 use board::Board;
+use board::CHANNELS;
+use buffers::RECORD;
 use history::AREA;
 use history::BLOCK;
 use history::Transfer;
@@ -424,6 +430,65 @@ fn test_read(name: &[u8], row: Row, file: &mut [u8], out: &mut [u8], back: &mut 
     verdict(row, 0, w, kept & comes_back(&out[..w], &file[..n], back));
 }
 
+// The board and the accounts after the records of a history.
+fn audited(h: &[u8]) -> Audit {
+    let mut a = account::start();
+    let n = h.len() / RECORD;
+    for i in 0..n {
+        a = a.send(records::event_at(h, RECORD * i));
+    }
+    a
+}
+
+// Prints a space and a number.
+fn show_number(n: u64) {
+    io::write_all(STDOUT_FILENO, b" ");
+    io::print_decimal(STDOUT_FILENO, n);
+}
+
+// Prints the account of a channel.
+fn show_balance(channel: usize, n: Balance) {
+    io::write_all(STDOUT_FILENO, b" ");
+    show_number(channel as u64);
+    show_number(n.made);
+    show_number(n.handed);
+    show_number(n.held);
+    show_number(n.reported);
+    show_number(n.unreported);
+    io::write_all(STDOUT_FILENO, b"\n");
+}
+
+// Prints the account of each channel that has one.
+fn show_accounts(a: Audit) {
+    let accounts = a.accounts;
+    let board = a.board;
+    let channels = board.channels;
+    for i in 0..CHANNELS {
+        let n = account::balance_of(accounts[i], channels[i]);
+        if (n.made | n.handed | n.held | n.reported | n.unreported) != 0 {
+            show_balance(i, n);
+        }
+    }
+}
+
+// `audit NAME`.
+fn test_audit(name: &[u8], file: &mut [u8], out: &mut [u8])
+    requires { ⌜ length (now file) ≡ 65536 ⌝ }
+    requires { ⌜ length (now out) ≡ 65536 ⌝ }
+{
+    let n = load(name, b".hist", file);
+    let t = history::read(&file[..n], out);
+    let w = t.written;
+    if t.result == 0 {
+        if w <= SIZE {
+            io::write_all(STDOUT_FILENO, b"\n");
+            show_accounts(audited(&out[..w]));
+            return;
+        }
+    }
+    io::write_all(STDOUT_FILENO, b" is not read\n");
+}
+
 // `write LENGTH ROOM RESULT BYTES`.
 fn test_write(n: usize, row: Row, file: &mut [u8], out: &mut [u8], back: &mut [u8])
     requires { ⌜ length (now file) ≡ 65536 ⌝ }
@@ -513,6 +578,10 @@ fn test(line: &[u8], file: &mut [u8], out: &mut [u8], back: &mut [u8])
     let b = line[0];
     if (b == b'l') & (w == 3) {
         test_log(&line[from..to], file, back, out);
+        return;
+    }
+    if b == b'a' {
+        test_audit(&line[from..to], file, out);
         return;
     }
     let row = row_at(line, to);
