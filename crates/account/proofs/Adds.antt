@@ -12,7 +12,6 @@ use lib.Seq.{getD-set-same, getD-set-other}
 use borrow.Author.Tests.{eqb-true, eq-eqb, ne-eqb}
 use Rattle.words.specs.Bits.{flag}
 use Rattle.words.proofs.BitLaws.{word-ext}
-use Rattle.words.proofs.Cases.{tested}
 use Rattle.words.proofs.Tables.{tab-ext, tab-same, getD-tab}
 use Rattle.counter.specs.Queue.{captured}
 use Rattle.counter.specs.Repair.{noChannel}
@@ -25,6 +24,7 @@ use Rattle.board.specs.Inputs.{channelIn, neighbour, extouts, inputsOf, channel
 use Rattle.board.specs.Step.{stepWith, stepped}
 use Rattle.board.specs.Respond.{withChannels}
 use Rattle.board.specs.declared.Board.{Board}
+use Rattle.reach.proofs.RangedBoard.{neighbour-lt}
 use Rattle.account.specs.Counts.{sceneAt, inputsAt, reasonsIn, captures, made, handed, reported}
 use Rattle.account.specs.Accounts.{noAccount, accountIn, more, accountAfter, accountsAfter}
 use Rattle.account.specs.Code.{emptied, allEmptied, afterHeld, afterStep, afterCall}
@@ -47,9 +47,6 @@ held-after i c = rw (← caught i c) (go (eqb (n .caught) 0))
     go true = refl
     go false = refl
 
-neighbour-in : (c : ℕ) → c < 6 → neighbour c < 6
-neighbour-in c h = tested (λ n. n < 6) (eqb c 0) (λ z. omega arith) (λ z. omega (arith, h))
-
 module _ (b : Board) where
   abbrev empty : Board
   empty = withChannels (allEmptied (b .channels)) b
@@ -65,7 +62,7 @@ module _ (b : Board) where
   held-in : (v w c : ℕ) → c < 6 → channelIn (stepped v w empty .channels) c .held ≡ flag (captures (inputsAt v w b c) (channelIn (b .channels) c))
   unfolding stepped stepWith allNext channelNext inputsAt sceneAt inputsOf
   held-in v w c h =
-      rw (getD-tab 6 _ c noChannel h, same-outs, channel-in c h, channel-in (neighbour c) (neighbour-in c h))
+      rw (getD-tab 6 _ c noChannel h, same-outs, channel-in c h, channel-in (neighbour c) (neighbour-lt c h))
       (held-after (inputsAt v w b c) (channelIn (b .channels) c))
 
   not-none : (t : Bool) → not (eqb (flag t) 0) ≡ t
@@ -99,16 +96,12 @@ module _ (b : Board) (e : Event) where
     pub call-adds : e .member < 6 → (xs : List Account) → length xs ≡ 6
         → set xs (e .member) (afterCall (e .kind) (answer (e .member) b e) (accountIn xs (e .member))) ≡ accountsAfter b e xs
     unfolding accountsAfter
-    call-adds m xs six = sym (tab-same 6 _ _ noAccount (length-set xs (e .member) _ ∙ six) at)
+    call-adds m xs six = sym (tab-same 6 _ _ noAccount (length-set xs (e .member) _ ∙ six) (λ c h. at c (ℕ-discrete c (e .member))))
       where
-        at : (c : ℕ) → c < 6 → accountAfter c b e (answer c b e) (accountIn xs c)
+        at : (c : ℕ) → Dec (c ≡ e .member) → accountAfter c b e (answer c b e) (accountIn xs c)
             ≡ accountIn (set xs (e .member) (afterCall (e .kind) (answer (e .member) b e) (accountIn xs (e .member)))) c
-        at c h = go (ℕ-discrete c (e .member))
-          where
-            go : Dec (c ≡ e .member) → accountAfter c b e (answer c b e) (accountIn xs c)
-                ≡ accountIn (set xs (e .member) (afterCall (e .kind) (answer (e .member) b e) (accountIn xs (e .member)))) c
-            go (yes p) = rw p (own-adds (accountIn xs (e .member)) ∙ sym (getD-set-same xs (e .member) _ noAccount (omega (arith, six, m))))
-            go (no p) = none-added c (λ q. p (sym q)) (accountIn xs c) ∙ sym (getD-set-other xs (e .member) c _ noAccount p)
+        at c (yes p) = rw p (own-adds (accountIn xs (e .member)) ∙ sym (getD-set-same xs (e .member) _ noAccount (omega (arith, six, m))))
+        at c (no p) = none-added c (λ q. p (sym q)) (accountIn xs c) ∙ sym (getD-set-other xs (e .member) c _ noAccount p)
 
     pub nothing-adds : 6 ≤ e .member → (xs : List Account) → length xs ≡ 6 → xs ≡ accountsAfter b e xs
     unfolding accountsAfter

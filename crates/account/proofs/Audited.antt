@@ -3,12 +3,9 @@
 use mathlib.Core.Path.{_≡_, sym, _∙_}
 use mathlib.Core.Bool.{true}
 use mathlib.Core.List.{List, [], _∷_}
-use Prim.Native.Nat.{ℕ, _+_, _-_, _^_, _≤_, _<_}
+use Prim.Native.Nat.{ℕ, min, _+_, _^_, _<_}
 use native.Mathlib.Omega.{arith}
-use lib.Dec.{ltb}
 use lib.ListN.{getD-replicate}
-use borrow.Author.Tests.{ltb-true, ltb-false, lt-ltb}
-use Rattle.words.proofs.Cases.{tested, taken}
 use Rattle.words.proofs.Tables.{getD-tab}
 use Rattle.counter.specs.Repair.{repaired}
 use Rattle.counter.proofs.Same.{channel-whole, channel-same}
@@ -21,7 +18,7 @@ use Rattle.board.specs.declared.Board.{Board}
 use Rattle.board.proofs.Same.{board-fields}
 use Rattle.reach.proofs.Reach.{reset-ranged, demand2}
 use Rattle.account.specs.Counts.{made, handed, reported, total}
-use Rattle.account.specs.Accounts.{most, least, added, noAccount, noAccounts, accountIn, more, accountsAfter, audited, balanceOf, capped, balance}
+use Rattle.account.specs.Accounts.{most, added, noAccount, noAccounts, accountIn, more, accountsAfter, audited, balanceOf, capped, balance}
 use Rattle.account.specs.Claim.{Kept, Request7, atEnd}
 use Rattle.account.specs.declared.Account.{Account}
 use Rattle.account.specs.declared.Balance.{Balance}
@@ -29,30 +26,20 @@ use Rattle.account.proofs.Events.{whole, at-most, accounted}
 
 -- ---- numbers that stay at their end
 
-by-least : (P : ℕ → Type 0) (n m : ℕ) → (n < m → P n) → (m ≤ n → P m) → P (least n m)
-by-least P n m h k = tested P (ltb n m) (λ t. h (ltb-true n m t)) (λ t. k (ltb-false n m t))
-
 added-none : (n : ℕ) → added n 0 ≡ n
 unfolding added
-added-none n = by-least (λ k. n + k ≡ n) 0 (most - n) (λ h. omega arith) (λ h. omega arith)
+added-none n = omega arith
 
 added-on : (n j k : ℕ) → added (added n j) k ≡ added n (j + k)
 unfolding added
-added-on n j k =
-    by-least (λ u. n + u + least k (most - (n + u)) ≡ n + least (j + k) (most - n)) j (most - n)
-    (λ h. by-least (λ u. n + j + u ≡ n + least (j + k) (most - n)) k (most - (n + j))
-    (λ p. by-least (λ u. n + j + k ≡ n + u) (j + k) (most - n) (λ q. omega arith) (λ q. omega (arith, h, p, q)))
-    (λ p. by-least (λ u. n + j + (most - (n + j)) ≡ n + u) (j + k) (most - n) (λ q. omega (arith, h, p, q)) (λ q. omega (arith, h, p, q))))
-    (λ h. by-least (λ u. n + (most - n) + u ≡ n + least (j + k) (most - n)) k (most - (n + (most - n)))
-    (λ p. absurd (omega (arith, p)))
-    (λ p. by-least (λ u. n + (most - n) + (most - (n + (most - n))) ≡ n + u) (j + k) (most - n) (λ q. omega (arith, h, q)) (λ q. omega (arith, h, q))))
+added-on n j k = omega arith
 
-added-first : (k : ℕ) → added 0 k ≡ least k most
+added-first : (k : ℕ) → added 0 k ≡ min k most
 unfolding added
 added-first k = omega arith
 
-below-most : (n : ℕ) → n < 2 ^ 32 → least n most ≡ n
-below-most n h = taken n most (lt-ltb n most (omega (arith, h)))
+below-most : (n : ℕ) → n < 2 ^ 32 → min n most ≡ n
+below-most n h = omega (arith, h)
 
 -- ---- accounts
 

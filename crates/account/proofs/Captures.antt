@@ -7,15 +7,16 @@ use native.Mathlib.Omega.{arith}
 use lib.Dec.{eqb}
 use lib.IntN.{ℤ}
 use lib.ListN.{getD}
-use borrow.Author.Tests.{ne-eqb}
+use borrow.Author.Tests.{ltb-true, ne-eqb}
 use Rattle.words.specs.Bits.{bit, flag, flags, some}
-use Rattle.words.proofs.BitLaws.{flag-lt, bit-or, bit-none, word-some}
+use Rattle.words.proofs.BitLaws.{bit-or, bit-none, word-some}
 use Rattle.counter.specs.Mode.{K}
 use Rattle.counter.specs.Difference.{errs, moved}
 use Rattle.counter.specs.Samples.{indexRises, indexFalls, extinRises, extinFalls}
 use Rattle.counter.specs.Advance.{Inputs, edgeReasons, look, reaches, counted, masked}
 use Rattle.counter.specs.declared.Channel.{Channel}
 use Rattle.counter.specs.declared.Seen.{Seen}
+use Rattle.reach.proofs.RangedStep.{samples-kept}
 use Rattle.account.specs.Counts.{reasonsIn, soft, isCaught, captures}
 
 -- ---- soft does not occur
@@ -26,7 +27,7 @@ unfolding bit
 low n h = ne-eqb (n / 2 ^ 7 % 2) 1 (λ k. omega (arith, h, k))
 
 flags-low : (a b c d : Bool) → flags a b c d < 16
-flags-low a b c d = omega (arith, flag-lt a, flag-lt b, flag-lt c, flag-lt d)
+flags-low a b c d = ltb-true (flags a b c d) 16 (samples-kept a b c d)
 
 matches-low : (a b c : Bool) → bit (flags a b c false) soft ≡ false
 matches-low a b c = low (flags a b c false) (omega (arith, flags-low a b c false))

@@ -101,13 +101,16 @@ module _ (b : Board) (six : length (b .channels) ≡ 6) (e : Event) (c : ℕ) (i
   by-class OnBoard p = past-checks Called 1 _ e b _ refused (λ m f. elsewhere OnBoard p refl (passedBy OnBoard b e) refl)
   by-class Unknown p = refused 2 refl refl
 
-  event-booked : let a : Answer = respond b e .answer in
+  abbrev EventBooked : Type 0
+  EventBooked =
+      let a : Answer = respond b e .answer in
       Booked me (made c b e a) (handed c b e a) (reported c b e a) (unseen c b e a) (next (respond b e))
+
+  event-booked : EventBooked
   unfolding made handed reported unseen
   event-booked = go (isStep e) refl
     where
-      go : (t : Bool) → isStep e ≡ t → let a : Answer = respond b e .answer in
-          Booked me (made c b e a) (handed c b e a) (reported c b e a) (unseen c b e a) (next (respond b e))
+      go : (t : Bool) → isStep e ≡ t → EventBooked
       go true s =
           rw (step-makes c b e s, of-step b e s, eqb-true (e .kind) 0 (and-eq-true-iff _ _ .0 s .0), and-false (eqb (e .member) c)) of-stepped
       go false s = rw (call-makes c b e s) (subst Called (sym (of-call b e s)) (by-class (classOf (e .kind)) refl))
@@ -131,18 +134,14 @@ whole b r es c h =
     record { exact = omega (arith, t .sum); none = t .none }
 
 -- at reset nothing is held and nothing lost
-none-held : (c : ℕ) → c < 6 → channelIn (resetBoard .channels) c .held ≡ 0
+nothing-yet : (c : ℕ) → c < 6 → (channelIn (resetBoard .channels) c .held ≡ 0) × (channelIn (resetBoard .channels) c .lost ≡ 0)
 unfolding resetBoard resetChannel
-none-held c h = rw (getD-replicate 6 c resetChannel noChannel h)
-
-none-lost : (c : ℕ) → c < 6 → channelIn (resetBoard .channels) c .lost ≡ 0
-unfolding resetBoard resetChannel
-none-lost c h = rw (getD-replicate 6 c resetChannel noChannel h)
+nothing-yet c h = rw (getD-replicate 6 c resetChannel noChannel h) (refl, refl)
 
 pub at-most : AtMost
-at-most es c h = omega (arith, whole resetBoard reset-ranged es c h .exact, none-held c h, none-lost c h)
+at-most es c h = omega (arith, whole resetBoard reset-ranged es c h .exact, nothing-yet c h .0, nothing-yet c h .1)
 
 pub accounted : Accounted respond
 accounted es c h few =
     let w = whole resetBoard reset-ranged es c h in
-    omega (arith, w .exact, none-held c h, none-lost c h, w .none (omega (arith, none-lost c h)))
+    omega (arith, w .exact, nothing-yet c h .0, nothing-yet c h .1, w .none (omega (arith, nothing-yet c h .1)))

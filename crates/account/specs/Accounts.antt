@@ -1,9 +1,7 @@
 -- Request 7, the account as it is kept: six of them, which go on by one event at a time, and the five numbers read off at the end.
 -- Assumes nothing.
-use mathlib.Core.Bool.{cond}
 use mathlib.Core.List.{List, [], _∷_}
-use Prim.Native.Nat.{ℕ, _+_, _-_, _^_}
-use lib.Dec.{ltb}
+use Prim.Native.Nat.{ℕ, min, _+_, _-_, _^_}
 use lib.ListN.{getD, replicate}
 use Rattle.words.specs.Table.{tab}
 use Rattle.counter.specs.declared.Channel.{Channel}
@@ -23,13 +21,9 @@ use Rattle.account.specs.declared.Balance.{Balance}
 abbrev pub most : ℕ
 most = 2 ^ 64 - 1
 
--- the smaller of two numbers
-abbrev pub least : ℕ → ℕ → ℕ
-least n m = cond (ltb n m) n m
-
 -- n with k more, as far as there is room: it stays at its end
 unfoldable pub added : ℕ → ℕ → ℕ
-added n k = n + least k (most - n)
+added n k = n + min k (most - n)
 
 -- nothing was made, handed out or reported
 abbrev pub noAccount : Account
@@ -68,10 +62,10 @@ balanceOf x c = record { made = x .made; handed = x .handed; held = c .held; rep
 abbrev pub capped : Balance → Balance
 capped n =
     record {
-      made = least (n .made) most;
-      handed = least (n .handed) most;
+      made = min (n .made) most;
+      handed = min (n .handed) most;
       held = n .held;
-      reported = least (n .reported) most;
+      reported = min (n .reported) most;
       unreported = n .unreported;
     }
 

@@ -10,7 +10,6 @@ use lib.IntN.{ℤ}
 use borrow.Author.Tests.{eqb-true, ltb-true, ltb-false}
 use Rattle.words.specs.Bits.{bit, word}
 use Rattle.words.proofs.BitLaws.{bit-word}
-use Rattle.words.proofs.Cases.{either}
 use Rattle.counter.specs.Mode.{XS, K, IP}
 use Rattle.counter.specs.Samples.{samples}
 use Rattle.counter.specs.Advance.{inputs, advance}
@@ -29,6 +28,7 @@ use Rattle.board.specs.Inputs.{channelIn, neighbour, extouts, indexOf, carriedB
 use Rattle.board.specs.Step.{sceneOf, sceneIn, coreNext, stepWith, stepped}
 use Rattle.board.specs.declared.Board.{Board}
 use Rattle.board.specs.declared.Scene.{Scene}
+use Rattle.reach.proofs.RangedBoard.{neighbour-lt}
 use Rattle.words.proofs.Tables.{getD-tab}
 use Rattle.isolation.specs.Members.{Members}
 use Rattle.isolation.specs.Settings.{Settings}
@@ -168,9 +168,6 @@ module _ (M : Members) where
       timestamp = ap (λ (k : Core). k .clock .timestamp) core-same;
       rises = ap (λ (k : Core). risesAt (k .clock .prescaler)) core-same;
     }
-
-    neighbour-lt : (c : ℕ) → c < 6 → neighbour c < 6
-    neighbour-lt c k = either (λ n. n < 6) (eqb c 0) (omega arith) (omega arith)
 
     channel-same : (c : ℕ) → c < 6 → M .isChannel c ≡ true → channelNext (scene v w b) (b .channels) c ≡ channelNext (scene y x h) (h .channels) c
     unfolding channelNext

@@ -4,6 +4,7 @@ use mathlib.Core.Path.{_≡_, refl, ap, sym, _∙_}
 use mathlib.Core.Bool.{Bool, true, false, not, Bool·beq}
 use mathlib.Core.List.{List}
 use Prim.Native.Nat.{ℕ, _+_, _*_, _<_}
+use native.Mathlib.Omega.{arith}
 use borrow.Author.Tests.{ltb-true, lt-ltb}
 use lib.Dec.{eqb}
 use lib.ListN.{set, length-set}
@@ -39,6 +40,9 @@ use Rattle.reach.proofs.RangedVirtuals.{virtual-sound, put-virtual-rang
 use Rattle.reach.proofs.RangedCore.{core-sound, core-ranged}
 
 -- ---- the step
+
+pub neighbour-lt : (c : ℕ) → c < 6 → neighbour c < 6
+neighbour-lt c k = either (λ n. n < 6) (eqb c 0) (omega arith) (omega arith)
 
 now-ranged : (s : Scene) (c mode route : ℕ) → isKept (samplesOf s c mode route) ≡ true
 unfolding samplesOf

@@ -1,7 +1,6 @@
 -- `account::added` meets its contract.
 -- Assumes nothing.
 use native.Mathlib.Omega.{arith}
-use borrow.Author.Tests.{lt-ltb, le-ltb}
 use borrow.Author.Needs.{needs}
 use Rattle.account.specs.Accounts.{added}
 use Rattle.account.proofs.added.Statement.{statement}
@@ -15,11 +14,11 @@ add-result c = search needs
 
 returns : tie.Need-returns
 unfolding added
-returns c = rw (lt-ltb _ _ (c .if1 .taken))
+returns c = omega (arith, c .if1 .taken)
 
 returns-2 : tie.Need-returns-2
 unfolding added
-returns-2 c = rw (le-ltb _ _ (c .if1 .left)) (omega (arith, c .before .fits .n))
+returns-2 c = omega (arith, c .if1 .left, c .before .fits .n)
 
 pub added-spec : {M : Type 1} → statement M
 added-spec = tie.close (tie.spec sub-if1 add-result returns returns-2)
