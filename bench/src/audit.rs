@@ -64,7 +64,7 @@ fn events(file: &[u8]) -> io::Result<Vec<Event>> {
     for (i, block) in file.chunks(BLOCK).enumerate() {
         let records = blocks::records(block, i as u32, i + 1 < last)
             .map_err(|result| io::Error::other(format!("block {i} {result}")))?;
-        for record in records.chunks_exact(RECORD) {
+        for record in records.bytes().chunks_exact(RECORD) {
             events.push(Event::from_record(record.try_into().unwrap()));
         }
     }

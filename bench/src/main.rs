@@ -14,6 +14,8 @@
 //!                                plain or tuned
 //!     bench audit MODEL          prints the accounts of the captures of a block file, a line for
 //!                                each channel
+//!     bench rows                 makes an old block file, stored by row, of the records on standard
+//!                                input
 #![deny(unsafe_code)]
 
 mod audit;
@@ -35,9 +37,11 @@ mod table;
 mod timing;
 mod week;
 
+use blocks::Form;
 use model::channel::Mode;
 use model::{Plain, Tuned};
 use side::{Side, SIDES};
+use std::io::{Read, Write};
 use std::path::Path;
 use std::process::ExitCode;
 use table::Row;
@@ -63,6 +67,7 @@ fn main() -> ExitCode {
         ["log", Tuned::NAME] => log::<Tuned>(),
         ["audit", Plain::NAME] => audit::<Plain>(),
         ["audit", Tuned::NAME] => audit::<Tuned>(),
+        ["rows"] => rows(),
         _ => Err("usage: see the head of bench/src/main.rs".into()),
     };
     match done {
@@ -191,6 +196,14 @@ fn count_once(name: &str, side: &str, n: &str) -> Result<(), String> {
     }
     case(name)?.pass(side, n);
     Ok(())
+}
+
+fn rows() -> Result<(), String> {
+    let mut records = Vec::new();
+    let done = std::io::stdin()
+        .read_to_end(&mut records)
+        .and_then(|_| std::io::stdout().write_all(&blocks::write_records(&records, Form::Rows)));
+    done.map_err(|e| format!("rows: {e}"))
 }
 
 fn log<M: Mode>() -> Result<(), String> {

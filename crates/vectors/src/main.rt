@@ -4,6 +4,8 @@
 // `write LENGTH ROOM RESULT BYTES`: so the writer answers a history of so many zero bytes.
 // `audit NAME`: the accounts of the history of NAME.hist, a line for each channel that has one: the
 // channel, captures made, handed out, held, reported and not yet reported.
+// `turn NAME`: of the old row file NAME.hist, the log of the column file that it is turned into and
+// the line that is told then are those of NAME.log.
 // `long BLOCKS TAIL RESULT PLACE`: the log of so many full blocks of accepted steps and, behind
 // them, so many zero bytes (at most 512) ends at this place with this result. The log is empty for
 // result 0, else only the line of this place. The blocks are made one by one and not kept.
@@ -49,6 +51,12 @@ struct State {
     place: u32,
     at: usize,
     result: u8,
+}
+
+// How long a column file is, and how long it is with the line of the bad place behind it.
+struct Turned {
+    file: usize,
+    all: usize,
 }
 
 // The size of all buffers.
@@ -305,6 +313,52 @@ fn test_log(name: &[u8], file: &mut [u8], log: &mut [u8], out: &mut [u8])
     let m = load(name, b".log", log);
     let w = log_file(&file[..n], out);
     compare(&log[..m], &out[..w]);
+}
+
+// The column file of a row file, and behind it the line of a bad place, at the start of out.
+fn turn_file(file: &[u8], out: &mut [u8]) -> Turned
+    requires { ⌜ length (now file) ≤ 65536 ⌝ }
+    requires { ⌜ length (now out) ≡ 65536 ⌝ }
+    ensures within { λ r. ⌜ r .all ≤ 65536 ⌝ }
+    ensures order { λ r. ⌜ r .file ≤ r .all ⌝ }
+{
+    let mut place: u32 = 0;
+    let mut from: usize = 0;
+    let mut at: usize = 0;
+    while from < file.len() {
+        let to = block_end(from, file.len());
+        let more = to < file.len();
+        let t = turn::turn_place(place, &file[from..to], more, &mut out[at..]);
+        let end = at + t.written;
+        if t.result != 0 {
+            return Turned { file: at, all: end };
+        }
+        at = end;
+        from = to;
+        place += 1;
+    }
+    Turned { file: at, all: at }
+}
+
+// `turn NAME`.
+fn test_turn(name: &[u8], file: &mut [u8], log: &mut [u8], out: &mut [u8])
+    requires { ⌜ length (now file) ≡ 65536 ⌝ }
+    requires { ⌜ length (now log) ≡ 65536 ⌝ }
+    requires { ⌜ length (now out) ≡ 65536 ⌝ }
+{
+    let n = load(name, b".hist", file);
+    let m = load(name, b".log", log);
+    let t = turn_file(&file[..n], out);
+    let from = t.file;
+    let to = t.all;
+    let w = log_file(&out[..from], file);
+    if to - from > SIZE - w {
+        io::write_all(STDOUT_FILENO, b" is too long\n");
+        return;
+    }
+    buffers::copy_to(&out[from..to], file, w);
+    let all = w + (to - from);
+    compare(&log[..m], &file[..all]);
 }
 
 // Tells `ok`, or what came in place of a row's result and last number.
@@ -578,6 +632,10 @@ fn test(line: &[u8], file: &mut [u8], out: &mut [u8], back: &mut [u8])
     let b = line[0];
     if (b == b'l') & (w == 3) {
         test_log(&line[from..to], file, back, out);
+        return;
+    }
+    if b == b't' {
+        test_turn(&line[from..to], file, back, out);
         return;
     }
     if b == b'a' {
