@@ -3,6 +3,8 @@
 // finds; `balance_of` reads the five numbers off at the end. An `Audit` has the board beside them
 // and sends it the events. Nothing is asked of a board or an event: a field outside its range counts
 // as its value at reset, as it does for `board::apply`.
+#![tactic(auto)]
+
 ghost use Rattle.std.specs.Prelude.{◌≡◌};
 ghost use Rattle.counter.specs.Repair.{repaired};
 ghost use Rattle.board.specs.Handed.{reset_board, repaired_board, applied};
@@ -15,7 +17,7 @@ use counter::Channel;
 
 // What was made, handed out and reported so far. A number that has come to 2^64 - 1 stays there.
 #[repr(C)]
-#[derive(Drop)]
+#[derive(Clone, Copy)]
 pub struct Account {
     pub made: u64,
     pub handed: u64,
@@ -25,7 +27,7 @@ pub struct Account {
 // The five numbers: captures made, entries handed out by call 11, entries held, lost captures
 // reported by result 6, and lost captures not yet reported.
 #[repr(C)]
-#[derive(Drop)]
+#[derive(Clone, Copy)]
 pub struct Balance {
     pub made: u64,
     pub handed: u64,
@@ -36,7 +38,7 @@ pub struct Balance {
 
 // A board, and the accounts of its captures.
 #[repr(C)]
-#[derive(Drop)]
+#[derive(Clone, Copy)]
 pub struct Audit {
     pub board: Board,
     pub accounts: [Account; CHANNELS],

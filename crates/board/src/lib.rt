@@ -1,5 +1,7 @@
 // The board: six channels, 48 pins, six virtual outputs and the board's own part. `apply` is the
 // entry point: it takes every board and every event there is and answers as document 01 says.
+#![tactic(auto)]
+
 ghost use Rattle.board.specs.Respond.{respond};
 
 mod entry;
@@ -17,7 +19,7 @@ pub use respond::{class_of, refusal};
 pub const CHANNELS: usize = 6;
 
 #[repr(C)]
-#[derive(Drop)]
+#[derive(Clone, Copy)]
 pub struct Board {
     pub channels: [Channel; CHANNELS],
     pub pins: Pins,
@@ -26,7 +28,7 @@ pub struct Board {
 }
 
 // The classes of kinds.
-#[derive(Drop)]
+#[derive(Clone, Copy)]
 pub enum Class {
     Step,
     OnChannel,
@@ -37,7 +39,7 @@ pub enum Class {
 }
 
 #[repr(C)]
-#[derive(Drop)]
+#[derive(Clone, Copy)]
 pub struct Outcome {
     pub board: Board,
     pub answer: Answer,
@@ -45,7 +47,7 @@ pub struct Outcome {
 
 // What every channel can see in a step: V, the ExtOuts of the last step, the ticks, the levels of
 // the pins and of the virtual outputs, a bit for each; the timestamp, and whether it rises.
-#[derive(Drop)]
+#[derive(Clone, Copy)]
 pub struct Scene {
     pub lines: u64,
     pub outs: u64,

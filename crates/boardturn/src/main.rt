@@ -1,6 +1,8 @@
 // Reads an old block file, stored by row, on standard input and writes the column file of its history
 // to standard output, block by block; memory does not grow with the file. A bad place gets its line
 // on standard error, and ends the file: the blocks before it are written and no more.
+#![tactic(auto)]
+
 ghost use Rattle.std.specs.Prelude.{◌≡◌, length};
 
 use history::BLOCK;

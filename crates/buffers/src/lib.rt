@@ -1,5 +1,7 @@
 // Lent buffers: bytes copied and cleared, and numbers of 32 and 64 bits put and read,
 // little-endian. What a function writes is a piece put at a place; all else stays.
+#![tactic(auto)]
+
 ghost use Rattle.std.specs.Prelude.{◌≡◌, ◌+◌, ◌*◌, ◌≤◌, length, replicate};
 ghost use Rattle.buffers.specs.Pieces.{put};
 ghost use Rattle.buffers.specs.Little.{little, field};

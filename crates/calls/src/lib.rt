@@ -1,6 +1,8 @@
 // Events and answers, the field checks, and the calls 1 to 30, each on the record of the channel,
 // pin, virtual output or board part that it names. The calls come after the checks of fields and of
 // SWE, which decide results 3 and 12 for all of them in one place.
+#![tactic(auto)]
+
 ghost use Rattle.std.specs.Prelude.{◌≡◌};
 ghost use Rattle.calls.specs.Reply.{number};
 
@@ -20,7 +22,7 @@ use ports::{Pin, Pins, Virtual, Virtuals};
 pub use virtual_calls::virtuals_call;
 
 #[repr(C)]
-#[derive(Drop)]
+#[derive(Clone, Copy)]
 pub struct Event {
     pub kind: u8,
     pub member: u8,
@@ -31,7 +33,7 @@ pub struct Event {
 }
 
 #[repr(C)]
-#[derive(Drop)]
+#[derive(Clone, Copy)]
 pub struct Answer {
     pub result: u32,
     pub value: u32,
@@ -40,38 +42,38 @@ pub struct Answer {
 }
 
 // The next record of what a call named, and the answer.
-#[derive(Drop)]
+#[derive(Clone, Copy)]
 pub struct ChannelReply {
     pub channel: Channel,
     pub answer: Answer,
 }
 
-#[derive(Drop)]
+#[derive(Clone, Copy)]
 pub struct PinReply {
     pub pin: Pin,
     pub answer: Answer,
 }
 
 // All pins, with that of the call in its place.
-#[derive(Drop)]
+#[derive(Clone, Copy)]
 pub struct PinsReply {
     pub pins: Pins,
     pub answer: Answer,
 }
 
-#[derive(Drop)]
+#[derive(Clone, Copy)]
 pub struct VirtualReply {
     pub output: Virtual,
     pub answer: Answer,
 }
 
-#[derive(Drop)]
+#[derive(Clone, Copy)]
 pub struct VirtualsReply {
     pub outputs: Virtuals,
     pub answer: Answer,
 }
 
-#[derive(Drop)]
+#[derive(Clone, Copy)]
 pub struct CoreReply {
     pub core: Core,
     pub answer: Answer,

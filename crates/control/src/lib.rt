@@ -1,4 +1,6 @@
 // The board's own part: the clock with its ticks, the watchdog, and safemode with what sets it.
+#![tactic(auto)]
+
 ghost use Rattle.std.specs.Prelude.{◌≡◌, ◌/◌, ◌^◌, ◌<◌};
 ghost use Rattle.control.specs.Clock.{prescaler_next, rises_at, advanced, tick, ticks, repaired_clock};
 ghost use Rattle.words.specs.Range.{or_reset};
@@ -38,7 +40,7 @@ const EXPIRED: u32 = STAGES as u32 + 1;
 pub const CONTROLS: u32 = 8;
 
 #[repr(C)]
-#[derive(Drop)]
+#[derive(Clone, Copy)]
 pub struct Clock {
     pub prescaler: u32,
     pub timestamp: u32,
@@ -47,7 +49,7 @@ pub struct Clock {
 // Each stage has its interval and its rest. `expired` is how many stages have expired: the first so
 // many, since a stage runs only when the one before it has expired.
 #[repr(C)]
-#[derive(Drop)]
+#[derive(Clone, Copy)]
 pub struct Watchdog {
     pub intervals: [u32; STAGES],
     pub rests: [u32; STAGES],
@@ -57,7 +59,7 @@ pub struct Watchdog {
 
 // `writes` is SWE: safe writes are allowed.
 #[repr(C)]
-#[derive(Drop)]
+#[derive(Clone, Copy)]
 pub struct Safety {
     pub control: u32,
     pub writes: bool,
@@ -65,7 +67,7 @@ pub struct Safety {
 }
 
 #[repr(C)]
-#[derive(Drop)]
+#[derive(Clone, Copy)]
 pub struct Core {
     pub clock: Clock,
     pub watchdog: Watchdog,

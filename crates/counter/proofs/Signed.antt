@@ -4,4 +4,4 @@ use Rattle.std.proofs.Common.{◌≡◌, ◌^◌, ◌<◌, ℤ, to_z-of_z, w32, 
 use lib.Signed.{mag}
 
 pub back : (z : ℤ) → mag z < 2 ^ 31 → to_z w32 (of_z w32 z) ≡ z
-back z h = to_z-of_z (record { sfits = h })
+back z h = to_z-of_z {w = w32} (record { sfits = h })

@@ -1,6 +1,8 @@
 // One channel of the board: its record, and what a step, a start, a capture and a preload make of
 // it. Each function says by an equation which definition of specs/ its result is; none asks
 // anything of a record, so a channel with fields outside their ranges is answered too.
+#![tactic(auto)]
+
 ghost use Rattle.std.specs.Prelude.{◌≡◌, true, ◌==◌};
 ghost use Rattle.counter.specs.Mode.{TE};
 ghost use Rattle.counter.specs.Setters.{with_run};
@@ -38,7 +40,7 @@ const UNROUTED: u32 = ROUTES - 1;
 // 8 ExtIn of the last step; `carry` is -1, 0 or +1; the queue's entries are the first `held`
 // places of the three arrays, the oldest first.
 #[repr(C)]
-#[derive(Drop)]
+#[derive(Clone, Copy)]
 pub struct Channel {
     pub mode: u32,
     pub preloads: [u32; 2],
@@ -60,7 +62,7 @@ pub struct Channel {
 }
 
 // What the clock gives: the difference, and whether the lines A and B made an error.
-#[derive(Drop)]
+#[derive(Clone, Copy)]
 pub struct Turn {
     pub d: i32,
     pub error: bool,
@@ -68,7 +70,7 @@ pub struct Turn {
 
 // What a channel's lines tell in a step: the difference, the reasons that do not come from the
 // count, whether the index is high, and armed after the index's edge.
-#[derive(Drop)]
+#[derive(Clone, Copy)]
 pub struct Seen {
     pub d: i32,
     pub reasons: u32,
@@ -77,7 +79,7 @@ pub struct Seen {
 }
 
 // The count before a preload, all reasons of the step, the carry, and armed before a preload.
-#[derive(Drop)]
+#[derive(Clone, Copy)]
 pub struct Counted {
     pub count: u32,
     pub reasons: u32,
@@ -86,7 +88,7 @@ pub struct Counted {
 }
 
 // The count, the selection and armed after a preload, or as they were without one.
-#[derive(Drop)]
+#[derive(Clone, Copy)]
 pub struct Loaded {
     pub count: u32,
     pub second: bool,
@@ -95,7 +97,7 @@ pub struct Loaded {
 
 // What a step makes of a channel's small fields, but for ExtOut: `seen` is the count before a
 // preload, which a capture holds, and `caught` the reasons of that capture, 0 for none.
-#[derive(Drop)]
+#[derive(Clone, Copy)]
 pub struct Next {
     pub count: u32,
     pub seen: u32,
@@ -106,7 +108,7 @@ pub struct Next {
 }
 
 // What a capture tells whoever made it: the channel after it, and whether its entry was stored.
-#[derive(Drop)]
+#[derive(Clone, Copy)]
 pub struct Capture {
     pub channel: Channel,
     pub stored: bool,

@@ -1,6 +1,8 @@
 // The noise filters of the 48 pins: a filter and a wait for each pin, numbers of 16 bits in bit
 // planes, of which bit p of plane j is bit j of pin p's number. So a step compares and counts by
 // words, for all pins at once. Planes of any words are taken.
+#![tactic(auto)]
+
 ghost use Rattle.std.specs.Prelude.{◌≡◌, cond, ◌+◌, ◌<◌, eqb, ltb, get_or};
 ghost use Rattle.words.specs.Bits.{bit, word, every};
 ghost use Rattle.filters.specs.Planes.{number_at, planes, put_number};
@@ -12,14 +14,14 @@ pub const PLANES: usize = 16;
 // The filter of each pin, and for how many steps in a row its raw level has differed from the
 // filtered one.
 #[repr(C)]
-#[derive(Drop)]
+#[derive(Clone, Copy)]
 pub struct Filters {
     pub filter: [u64; PLANES],
     pub wait: [u64; PLANES],
 }
 
 // What a step leaves: the filters, and the filtered level of each pin.
-#[derive(Drop)]
+#[derive(Clone, Copy)]
 pub struct Filtered {
     pub filters: Filters,
     pub level: u64,

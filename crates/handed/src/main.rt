@@ -2,6 +2,8 @@
 // board, by events that are accepted, refused, and answered 6, and by lists of these. Then each
 // field that has a range by itself. Then boards that no script reaches in a test's time, or whose
 // record tells more than a call does.
+#![tactic(auto)]
+
 mod accounts;
 mod lists;
 mod ranges;

@@ -1,11 +1,13 @@
 // The names of the text form, as docs/TEXT.md lists them: those of the kinds, with the fields that
 // each has, and those of a step's inputs.
+#![tactic(auto)]
+
 ghost use Rattle.std.specs.Prelude.{◌≡◌, ◌∷◌, ◌+◌, ◌≤◌, ◌<◌, length};
 ghost use Rattle.buffers.specs.Pieces.{put};
 ghost use Rattle.kinds.specs.Names.{kinds, names, name, raw_name, kind_in, kind_of, fields_of, letter, input_at, input_of, input_name, pin_name};
 
 // What the first word of a line names: a kind, the six fields of `raw`, or nothing.
-#[derive(Drop)]
+#[derive(Clone, Copy)]
 pub enum Named {
     Kind(u8),
     Raw,
@@ -13,7 +15,7 @@ pub enum Named {
 }
 
 // An input of a step that a word names: bit `place` of W for a pin, else of V.
-#[derive(Drop)]
+#[derive(Clone, Copy)]
 pub struct Input {
     pub good: bool,
     pub pin: bool,

@@ -1,6 +1,8 @@
 // Whole histories for programs in C or Rust: the archive that `rt staticlib planner` writes. A
 // planner hands in a board and a list of records, and takes an answer for each of them; what the
 // list needs as a history it can ask beforehand.
+#![tactic(auto)]
+
 ghost use Rattle.std.specs.Prelude.{◌≡◌};
 ghost use Rattle.runs.specs.Answers.{Running};
 ghost use Rattle.room.specs.Needs.{needs};

@@ -1,5 +1,7 @@
 // The pins and the virtual outputs: their records, bit by bit in words, and what a step makes of
 // them. A function that takes a pin's or an output's number asks that there is one.
+#![tactic(auto)]
+
 ghost use Rattle.std.specs.Prelude.{◌≡◌, ◌<◌, cond, ◌&&◌};
 ghost use Rattle.words.specs.Bits.{bit, word, put_bit};
 ghost use Rattle.words.specs.Range.{or_reset, all_good, all_or_reset};
@@ -31,7 +33,7 @@ const ROUTED: u64 = PINS + VIRTUALS;
 
 // One pin, but for its filter. Its level is the filtered one.
 #[repr(C)]
-#[derive(Drop)]
+#[derive(Clone, Copy)]
 pub struct Pin {
     pub source: u32,
     pub own: bool,
@@ -44,7 +46,7 @@ pub struct Pin {
 // All pins: bit p of each word is pin p's. The three source words hold the three bits of each
 // pin's source number. `level` is the filtered level of the last step.
 #[repr(C)]
-#[derive(Drop)]
+#[derive(Clone, Copy)]
 pub struct Pins {
     pub level: u64,
     pub driven: u64,
@@ -59,7 +61,7 @@ pub struct Pins {
 
 // One virtual output.
 #[repr(C)]
-#[derive(Drop)]
+#[derive(Clone, Copy)]
 pub struct Virtual {
     pub own: bool,
     pub safedata: bool,
@@ -68,7 +70,7 @@ pub struct Virtual {
 
 // All virtual outputs: bit o of each word is output o's.
 #[repr(C)]
-#[derive(Drop)]
+#[derive(Clone, Copy)]
 pub struct Virtuals {
     pub own: u64,
     pub safedata: u64,

@@ -1,1 +1,3 @@
 // What the requests say of the machine that they amend: no code, only the theorems.
+#![tactic(auto)]
+

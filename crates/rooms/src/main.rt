@@ -3,6 +3,8 @@
 // tells of it, that is result, blocks, steps, lines and bytes; and, if it is taken, `ok` and how many
 // bytes were printed, or what came of writing, running and printing it. It is told in parts of 1, 31
 // and 4,000 records; one that is no longer than the last part also at once.
+#![tactic(auto)]
+
 ghost use Rattle.std.specs.Prelude.{◌≡◌, ◌+◌, ◌*◌, ◌<◌, ◌≤◌, length};
 
 use board::Board;
@@ -31,7 +33,7 @@ const FULL: u32 = history::FULL;
 const LATE: u32 = 1000000;
 
 // How the records of a history are made.
-#[derive(Drop)]
+#[derive(Clone, Copy)]
 enum Sort {
     // accepted steps, with all lines low and with all high in turn
     Steps,
@@ -44,7 +46,7 @@ enum Sort {
 }
 
 // What writing, running and printing a history came to.
-#[derive(Drop)]
+#[derive(Clone, Copy)]
 struct Came {
     board: Board,
     blocks: u32,

@@ -1,12 +1,14 @@
 // What a text is read with: equal bytes, parts between separators, numbers. Every function takes every
 // text there is; a place must be in it.
+#![tactic(auto)]
+
 ghost use Rattle.std.specs.Prelude.{◌≡◌, ◌∷◌, ◌+◌, ◌-◌, ◌*◌, ◌<◌, ◌≤◌, length, take, drop};
 ghost use Rattle.scan.specs.Bytes.{same};
 ghost use Rattle.scan.specs.Parts.{parts_from, between, before};
 ghost use Rattle.scan.specs.Numbers.{worth, extended, figure, number};
 
 // A number that was read, or none.
-#[derive(Drop)]
+#[derive(Clone, Copy)]
 pub struct Amount {
     pub good: bool,
     pub value: u64,

@@ -8,6 +8,8 @@
 // lines, what was expected and what came. A file that cannot be read, or is longer than there is
 // room for, is told in place of a run. What fails on standard input or output is told on standard
 // error and ends the program.
+#![tactic(auto)]
+
 ghost use Rattle.std.specs.Prelude.{◌≡◌, ◌+◌, ◌<◌, ◌≤◌, length};
 
 use account::{Audit, Balance};
@@ -31,7 +33,7 @@ const SPAN: usize = DIGITS + 1;
 
 // Where the log stands: the place behind the lines that agreed, how many these are, the length of
 // the line that came last, and whether it differed.
-#[derive(Drop)]
+#[derive(Clone, Copy)]
 struct Log {
     at: usize,
     lines: u64,
@@ -40,7 +42,7 @@ struct Log {
 }
 
 // The board after so many events, and the log.
-#[derive(Drop)]
+#[derive(Clone, Copy)]
 struct Course {
     board: Board,
     events: u64,
@@ -48,7 +50,7 @@ struct Course {
 }
 
 // What is looked at: a letter and a number.
-#[derive(Drop)]
+#[derive(Clone, Copy)]
 struct Output {
     letter: u8,
     number: u64,
@@ -56,7 +58,7 @@ struct Output {
 
 // The steps so far, the length of the text of spans in which the output is high, and the first and
 // the last step of the span that is open, 0 if none is.
-#[derive(Drop)]
+#[derive(Clone, Copy)]
 struct Spans {
     steps: u64,
     at: usize,
@@ -65,7 +67,7 @@ struct Spans {
 }
 
 // The board after the events so far, and the spans.
-#[derive(Drop)]
+#[derive(Clone, Copy)]
 struct Watch {
     board: Board,
     spans: Spans,

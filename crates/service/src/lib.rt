@@ -1,5 +1,7 @@
 // The board for programs in C or Rust, event by event: the archive that `rt staticlib service`
 // writes. A service keeps the board and hands it in with each event.
+#![tactic(auto)]
+
 ghost use Rattle.std.specs.Prelude.{◌≡◌};
 ghost use Rattle.board.specs.Respond.{outcome};
 ghost use Rattle.board.specs.Handed.{reset_board, applied};

@@ -1,4 +1,6 @@
 // Text in lent buffers: numbers in decimal and hexadecimal. Each function answers the place behind what it wrote.
+#![tactic(auto)]
+
 ghost use Rattle.std.specs.Prelude.{◌≡◌, [], ◌∷◌, ◌+◌, ◌≤◌, ◌<◌, length};
 ghost use Rattle.buffers.specs.Pieces.{put};
 ghost use Rattle.text.specs.Decimal.{digits, decimal, entry, digit, hexadecimal};

@@ -17,6 +17,8 @@
 // decoded and encoded and must be the same, and so must each block's records, printed as text and
 // read again. Each line is repeated with `ok`, or with what differs:
 // of a log the line's number, what was expected and what came.
+#![tactic(auto)]
+
 ghost use Rattle.std.specs.Prelude.{◌≡◌, ◌+◌, ◌<◌, ◌≤◌, length};
 
 use account::{Audit, Balance};
@@ -31,7 +33,7 @@ const MARK: u8 = 0xa5;
 
 // What a table's row asks for: room, result, bytes. In a `long` row these are the bytes behind the
 // blocks, the result and the place.
-#[derive(Drop)]
+#[derive(Clone, Copy)]
 struct Row {
     room: usize,
     result: u64,
@@ -39,7 +41,7 @@ struct Row {
 }
 
 // A number in a row, and the place behind it.
-#[derive(Drop)]
+#[derive(Clone, Copy)]
 struct Number {
     value: u64,
     next: usize,
@@ -47,7 +49,7 @@ struct Number {
 
 // The board after the sound places, how many these are, the length of the log, and the result of
 // the last place.
-#[derive(Drop)]
+#[derive(Clone, Copy)]
 struct State {
     board: Board,
     place: u32,
@@ -56,7 +58,7 @@ struct State {
 }
 
 // How long a column file is, and how long it is with the line of the bad place behind it.
-#[derive(Drop)]
+#[derive(Clone, Copy)]
 struct Turned {
     file: usize,
     all: usize,

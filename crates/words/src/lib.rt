@@ -1,6 +1,8 @@
 // Bits of a number, and words of 48 bits, a bit for each pin of the board. Each function says which
 // bits its result has, and the crates above go by that. A word function ends in a remainder by
 // 2^48, so it takes every u64.
+#![tactic(auto)]
+
 ghost use Rattle.std.specs.Prelude.{◌≡◌, ◌-◌, ◌<◌, not, cond, ◌||◌, ◌&&◌, eqb, ltb};
 ghost use Rattle.std.specs.Bool.{beq};
 ghost use Rattle.words.specs.Bits.{bit, flag, flags, word, put_bit};

@@ -1,0 +1,11 @@
+-- `control::Core::repair` meets its contract.
+-- Assumes nothing.
+use Rattle.control.specs.Whole.{repaired_core}
+use Rattle.control.proofs.Core.repair.Goals as goal
+
+pub returns : goal.returns
+unfolding repaired_core
+returns c =
+    let c₁ = c.before in
+    let c₂ = c₁.before in
+    rw (c.repair-3.ensures, c₁.repair-2.ensures, c₂.repair.ensures)

@@ -1,0 +1,12 @@
+-- `counter::Channel::is_sound` meets its contract.
+-- Assumes nothing.
+use Rattle.counter.specs.Repair.{channel_in_range}
+use Rattle.counter.proofs.Signed.{back}
+use Rattle.counter.proofs.Channel.is_sound.Goals as goal
+
+pub returns : goal.returns
+unfolding channel_in_range
+returns c =
+    let c₇ = c.before.before.before.before.before.before.before in
+    let carry = back c₇.args.self.carry c.struct_told-1.given.1.1.1.1.1.1.1.1.1.1.1.0.1 in
+    rw (c.are_reasons.ensures, c.is_carry.ensures, carry, c₇.is_good.ensures)
