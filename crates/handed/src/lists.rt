@@ -36,25 +36,30 @@ fn run_none(board: Board) -> Outcome {
 
 // Refused events leave the very board, result 6 clears one lost count of it, an accepted event
 // stores the repaired board.
-pub fn show_lists(board: Board) {
-    show(b"list of no events", run_none(board));
+pub fn show_lists(rt: HostRuntime, board: Board) {
+    show(rt, b"list of no events", run_none(board));
     show(
+        rt,
         b"list, unknown kind, channel 6",
         run_two(board, event(200, 0, 0), event(10, 6, 0)),
     );
     show(
+        rt,
         b"list, safe writes with SWE 0",
         run_two(board, event(16, 47, 0), event(19, 0, 1)),
     );
     show(
+        rt,
         b"list, snapshot read twice, captures lost",
         run_two(board, event(11, 0, 0), event(11, 0, 0)),
     );
     show(
+        rt,
         b"list, unknown kind, count read",
         run_two(board, event(200, 0, 0), event(10, 1, 0)),
     );
     show(
+        rt,
         b"list, count read, channel 6",
         run_two(board, event(10, 1, 0), event(10, 6, 0)),
     );

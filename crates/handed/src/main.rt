@@ -165,87 +165,103 @@ pub fn event(kind: u8, member: u8, v: u32) -> Event {
 }
 
 // Events that are refused or answered 6 leave the board with every field outside its range.
-fn show_refused() {
-    show(b"unknown kind", board::apply(broken(), event(200, 0, 0)));
-    show(b"channel 6", board::apply(broken(), event(10, 6, 0)));
+fn show_refused(rt: HostRuntime) {
     show(
+        rt,
+        b"unknown kind",
+        board::apply(broken(), event(200, 0, 0)),
+    );
+    show(rt, b"channel 6", board::apply(broken(), event(10, 6, 0)));
+    show(
+        rt,
         b"count read with an argument",
         board::apply(broken(), event(10, 0, 1)),
     );
     show(
+        rt,
         b"safe write of a pin with SWE 0",
         board::apply(broken(), event(15, 0, 1)),
     );
     show(
+        rt,
         b"safe write of a virtual output with SWE 0",
         board::apply(broken(), event(20, 5, 0)),
     );
     show(
+        rt,
         b"filter write of 65,536",
         board::apply(broken(), event(30, 5, 65536)),
     );
     show(
+        rt,
         b"snapshot read, captures lost",
         board::apply(broken(), event(11, 0, 0)),
     );
     show(
+        rt,
         b"snapshot read, nothing lost",
         board::apply(broken(), event(11, 1, 0)),
     );
 }
 
 // Events that are accepted store the repaired board.
-fn show_accepted() {
-    show(b"count read", board::apply(broken(), event(10, 1, 0)));
-    show(b"mode write", board::apply(broken(), event(1, 0, 48)));
+fn show_accepted(rt: HostRuntime) {
+    show(rt, b"count read", board::apply(broken(), event(10, 1, 0)));
+    show(rt, b"mode write", board::apply(broken(), event(1, 0, 48)));
     show(
+        rt,
         b"safe write of a pin with SWE 1",
         board::apply(broken_with_swe(), event(15, 0, 1)),
     );
     show(
+        rt,
         b"safe write of a virtual output with SWE 1",
         board::apply(broken_with_swe(), event(20, 5, 0)),
     );
     show(
+        rt,
         b"filter write of 5",
         board::apply(broken(), event(30, 47, 5)),
     );
-    show(b"status", board::apply(broken(), event(29, 0, 0)));
-    show(b"step", board::apply(broken(), event(0, 0, 0)));
+    show(rt, b"status", board::apply(broken(), event(29, 0, 0)));
+    show(rt, b"step", board::apply(broken(), event(0, 0, 0)));
 }
 
 // Boards that no script reaches in a test's time, or whose record tells more than a call does.
-fn show_points() {
+fn show_points(rt: HostRuntime) {
     show(
+        rt,
         b"C24, step",
         board::apply(before_the_wrap(), event(0, 0, 0)),
     );
     show(
+        rt,
         b"C34, soft preload",
         board::apply(second_without_bp(), event(9, 0, 0)),
     );
     let loaded = board::apply(second_without_bp(), event(9, 0, 0));
     let after = loaded.board;
-    show(b"C34, status", board::apply(after, event(12, 0, 0)));
+    show(rt, b"C34, status", board::apply(after, event(12, 0, 0)));
     show(
+        rt,
         b"W7, interval",
         board::apply(board::reset(), event(25, 0, 7)),
     );
 }
 
 // The status after a step, and what the step made of the watchdog.
-fn show_step(name: &[u8], b: Board) {
+fn show_step(rt: HostRuntime, name: &[u8], b: Board) {
     let stepped = board::apply(b, event(0, 0, 0));
     let after = stepped.board;
-    show(name, board::apply(after, event(29, 0, 0)));
+    show(rt, name, board::apply(after, event(29, 0, 0)));
 }
 
 // A stage with a rest of 0 that has not expired, the first one and one behind it; rests of stages
 // that have expired.
-fn show_stages() {
-    show_step(b"W9, status after a step", watched([0, 6, 7], 0));
-    show_step(b"W9, behind an expired stage", watched([4, 0, 7], 1));
-    show_step(b"all stages expired", watched([2, 3, 4], 3));
+fn show_stages(rt: HostRuntime) {
+    show_step(rt, b"W9, status after a step", watched([0, 6, 7], 0));
+    show_step(rt, b"W9, behind an expired stage", watched([4, 0, 7], 1));
+    show_step(rt, b"all stages expired", watched([2, 3, 4], 3));
     let third = Event {
         kind: 25,
         member: 0,
@@ -255,19 +271,20 @@ fn show_stages() {
         w: 0,
     };
     show(
+        rt,
         b"R4, interval of stage 2",
         board::apply(board::reset(), third),
     );
 }
 
-fn main() {
-    show_refused();
-    show_accepted();
-    lists::show_lists(broken());
-    ranges::show_ranges();
-    show_points();
-    show_stages();
-    waits::show_waits();
-    ticks::show_ticks();
-    accounts::show_accounts();
+fn main(rt: HostRuntime) {
+    show_refused(rt);
+    show_accepted(rt);
+    lists::show_lists(rt, broken());
+    ranges::show_ranges(rt);
+    show_points(rt);
+    show_stages(rt);
+    waits::show_waits(rt);
+    ticks::show_ticks(rt);
+    accounts::show_accounts(rt);
 }

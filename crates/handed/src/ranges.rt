@@ -22,51 +22,51 @@ fn read(b: Board) -> Outcome {
 }
 
 // What is stored of a channel 0.
-fn of_channel(name: &[u8], c: Channel) {
+fn of_channel(rt: HostRuntime, name: &[u8], c: Channel) {
     let mut b = board::reset();
     b.channels[0] = c;
     let o = read(b);
     let answer = o.answer;
-    show_answer(name, answer);
+    show_answer(rt, name, answer);
     let next = o.board;
     let stored = next.channels[0];
-    show_channel(stored);
+    show_channel(rt, stored);
 }
 
 // Of the pins.
-fn of_pins(name: &[u8], x: Pins) {
+fn of_pins(rt: HostRuntime, name: &[u8], x: Pins) {
     let mut b = board::reset();
     b.pins = x;
     let o = read(b);
     let answer = o.answer;
-    show_answer(name, answer);
+    show_answer(rt, name, answer);
     let next = o.board;
     let stored = next.pins;
-    show_pins(stored);
+    show_pins(rt, stored);
 }
 
 // Of the outputs.
-fn of_virtuals(name: &[u8], x: Virtuals) {
+fn of_virtuals(rt: HostRuntime, name: &[u8], x: Virtuals) {
     let mut b = board::reset();
     b.virtuals = x;
     let o = read(b);
     let answer = o.answer;
-    show_answer(name, answer);
+    show_answer(rt, name, answer);
     let next = o.board;
     let stored = next.virtuals;
-    show_virtuals(stored);
+    show_virtuals(rt, stored);
 }
 
 // Of the board's own part.
-fn of_core(name: &[u8], k: Core) {
+fn of_core(rt: HostRuntime, name: &[u8], k: Core) {
     let mut b = board::reset();
     b.core = k;
     let o = read(b);
     let answer = o.answer;
-    show_answer(name, answer);
+    show_answer(rt, name, answer);
     let next = o.board;
     let stored = next.core;
-    show_core(stored);
+    show_core(rt, stored);
 }
 
 // A channel with the greatest values of its ranges, and a queue that has lost captures. The route is
@@ -91,43 +91,47 @@ fn with_mode(m: u32) -> Channel {
     c
 }
 
-fn show_modes() {
-    of_channel(b"bit 28 of the mode", with_mode(GREATEST_MODE + (1 << 28)));
-    of_channel(b"TE 3", with_mode(GREATEST_MODE + (1 << 9)));
-    of_channel(b"TD 3", with_mode(GREATEST_MODE + (1 << 7)));
-    of_channel(b"IM 3", with_mode(GREATEST_MODE + (1 << 25)));
-    of_channel(b"OM 5", with_mode(GREATEST_MODE + (1 << 18)));
+fn show_modes(rt: HostRuntime) {
+    of_channel(
+        rt,
+        b"bit 28 of the mode",
+        with_mode(GREATEST_MODE + (1 << 28)),
+    );
+    of_channel(rt, b"TE 3", with_mode(GREATEST_MODE + (1 << 9)));
+    of_channel(rt, b"TD 3", with_mode(GREATEST_MODE + (1 << 7)));
+    of_channel(rt, b"IM 3", with_mode(GREATEST_MODE + (1 << 25)));
+    of_channel(rt, b"OM 5", with_mode(GREATEST_MODE + (1 << 18)));
 }
 
-fn show_channels() {
-    of_channel(b"greatest channel", greatest_channel());
+fn show_channels(rt: HostRuntime) {
+    of_channel(rt, b"greatest channel", greatest_channel());
     let mut c = greatest_channel();
     c.route = 55;
-    of_channel(b"route 55", c);
+    of_channel(rt, b"route 55", c);
     let mut c = greatest_channel();
     c.mask = 512;
-    of_channel(b"mask 512", c);
+    of_channel(rt, b"mask 512", c);
     let mut c = greatest_channel();
     c.kept = 16;
-    of_channel(b"kept 16", c);
+    of_channel(rt, b"kept 16", c);
     let mut c = greatest_channel();
     c.carry = 2;
-    of_channel(b"carry 2", c);
+    of_channel(rt, b"carry 2", c);
     let mut c = greatest_channel();
     c.carry = -1;
-    of_channel(b"carry -1", c);
+    of_channel(rt, b"carry -1", c);
     let mut c = greatest_channel();
     c.carry = -2;
-    of_channel(b"carry -2", c);
+    of_channel(rt, b"carry -2", c);
     let mut c = greatest_channel();
     c.held = 17;
-    of_channel(b"held 17", c);
+    of_channel(rt, b"held 17", c);
     let mut c = greatest_channel();
     c.reasons[0] = 512;
-    of_channel(b"first reasons 512", c);
+    of_channel(rt, b"first reasons 512", c);
     let mut c = greatest_channel();
     c.reasons[15] = 512;
-    of_channel(b"last reasons 512", c);
+    of_channel(rt, b"last reasons 512", c);
 }
 
 // Pins with the greatest words, and source number 6 for each. The safe enables are not all 1, as
@@ -155,43 +159,43 @@ fn numbers() -> Pins {
     x
 }
 
-fn show_all_pins() {
-    of_pins(b"greatest pins", greatest_pins());
+fn show_all_pins(rt: HostRuntime) {
+    of_pins(rt, b"greatest pins", greatest_pins());
     let mut x = greatest_pins();
     x.level = PIN_WORDS + 1;
-    of_pins(b"levels 2^48 + 1", x);
+    of_pins(rt, b"levels 2^48 + 1", x);
     let mut x = greatest_pins();
     x.driven = PIN_WORDS + 1;
-    of_pins(b"driven 2^48 + 1", x);
+    of_pins(rt, b"driven 2^48 + 1", x);
     let mut x = greatest_pins();
     x.own = PIN_WORDS + 1;
-    of_pins(b"own 2^48 + 1", x);
+    of_pins(rt, b"own 2^48 + 1", x);
     let mut x = greatest_pins();
     x.safedata = PIN_WORDS + 1;
-    of_pins(b"safe data 2^48 + 1", x);
+    of_pins(rt, b"safe data 2^48 + 1", x);
     let mut x = greatest_pins();
     x.safeenable = PIN_WORDS + 1;
-    of_pins(b"safe enables 2^48 + 1", x);
+    of_pins(rt, b"safe enables 2^48 + 1", x);
 }
 
-fn show_sources() {
-    of_pins(b"source 7 of pin 0", numbers());
+fn show_sources(rt: HostRuntime) {
+    of_pins(rt, b"source 7 of pin 0", numbers());
     let mut x = numbers();
     x.source0 = PIN_WORDS + 3;
-    of_pins(b"first plane 2^48 + 3", x);
+    of_pins(rt, b"first plane 2^48 + 3", x);
     let mut x = numbers();
     x.source1 = PIN_WORDS + 5;
-    of_pins(b"second plane 2^48 + 5", x);
+    of_pins(rt, b"second plane 2^48 + 5", x);
     let mut x = numbers();
     x.source2 = PIN_WORDS + 9;
-    of_pins(b"third plane 2^48 + 9", x);
+    of_pins(rt, b"third plane 2^48 + 9", x);
 }
 
 // Pins at reset with these filters.
-fn of_filters(name: &[u8], f: Filters) {
+fn of_filters(rt: HostRuntime, name: &[u8], f: Filters) {
     let mut x = ports::reset_pins();
     x.filters = f;
-    of_pins(name, x);
+    of_pins(rt, name, x);
 }
 
 // Filters and waits in the outer planes, for pins 0 and 2, and for pins 1 and 2.
@@ -209,19 +213,19 @@ fn outer() -> Filters {
 }
 
 // Each plane by itself.
-fn show_planes() {
+fn show_planes(rt: HostRuntime) {
     let all = Filters {
         filter: [PIN_WORDS - 1; filters::PLANES],
         wait: [PIN_WORDS - 1; filters::PLANES],
     };
-    of_filters(b"greatest filters and waits", all);
+    of_filters(rt, b"greatest filters and waits", all);
     for j in 0..filters::PLANES {
         let mut f = outer();
         f.filter[j] = PIN_WORDS + 1;
-        of_filters(b"a filter plane 2^48 + 1", f);
+        of_filters(rt, b"a filter plane 2^48 + 1", f);
         let mut f = outer();
         f.wait[j] = PIN_WORDS + 1;
-        of_filters(b"a wait plane 2^48 + 1", f);
+        of_filters(rt, b"a wait plane 2^48 + 1", f);
     }
 }
 
@@ -234,17 +238,17 @@ fn greatest_virtuals() -> Virtuals {
     }
 }
 
-fn show_outputs() {
-    of_virtuals(b"greatest outputs", greatest_virtuals());
+fn show_outputs(rt: HostRuntime) {
+    of_virtuals(rt, b"greatest outputs", greatest_virtuals());
     let mut x = greatest_virtuals();
     x.own = OUTPUT_WORDS + 1;
-    of_virtuals(b"data 65", x);
+    of_virtuals(rt, b"data 65", x);
     let mut x = greatest_virtuals();
     x.safedata = OUTPUT_WORDS + 1;
-    of_virtuals(b"safe data 65", x);
+    of_virtuals(rt, b"safe data 65", x);
     let mut x = greatest_virtuals();
     x.safeenable = OUTPUT_WORDS + 1;
-    of_virtuals(b"safe enables 65", x);
+    of_virtuals(rt, b"safe enables 65", x);
 }
 
 // A disabled watchdog with these intervals, of which so many stages have expired.
@@ -266,34 +270,34 @@ fn greatest_core() -> Core {
     k
 }
 
-fn show_cores() {
-    of_core(b"own part at the ends", greatest_core());
+fn show_cores(rt: HostRuntime) {
+    of_core(rt, b"own part at the ends", greatest_core());
     let mut k = greatest_core();
     k.clock.prescaler = 500_000_000;
-    of_core(b"prescaler 500,000,000", k);
+    of_core(rt, b"prescaler 500,000,000", k);
     let mut k = greatest_core();
     k.watchdog = watchdog([0, 1, 1], 3);
-    of_core(b"interval 0 of stage 0", k);
+    of_core(rt, b"interval 0 of stage 0", k);
     let mut k = greatest_core();
     k.watchdog = watchdog([1, 0, 1], 3);
-    of_core(b"interval 0 of stage 1", k);
+    of_core(rt, b"interval 0 of stage 1", k);
     let mut k = greatest_core();
     k.watchdog = watchdog([1, 1, 0], 3);
-    of_core(b"interval 0 of stage 2", k);
+    of_core(rt, b"interval 0 of stage 2", k);
     let mut k = greatest_core();
     k.watchdog = watchdog([1, 1, 1], 4);
-    of_core(b"4 stages expired", k);
+    of_core(rt, b"4 stages expired", k);
     let mut k = greatest_core();
     k.safety.control = 8;
-    of_core(b"control 8", k);
+    of_core(rt, b"control 8", k);
 }
 
-pub fn show_ranges() {
-    show_channels();
-    show_modes();
-    show_all_pins();
-    show_sources();
-    show_planes();
-    show_outputs();
-    show_cores();
+pub fn show_ranges(rt: HostRuntime) {
+    show_channels(rt);
+    show_modes(rt);
+    show_all_pins(rt);
+    show_sources(rt);
+    show_planes(rt);
+    show_outputs(rt);
+    show_cores(rt);
 }

@@ -3,137 +3,140 @@ use board::Outcome;
 use calls::Answer;
 use control::Core;
 use counter::Channel;
-use libc::STDOUT_FILENO;
 use ports::{Pins, Virtuals};
 
 // Bytes to standard output.
-pub fn text(t: &[u8]) {
-    io::write_all(STDOUT_FILENO, t);
+pub fn text(rt: HostRuntime, t: &[u8]) {
+    let _ = rt.write_all(t);
 }
 
 // A name and a number.
-pub fn number(name: &[u8], n: u64) {
-    text(name);
-    io::print_decimal(STDOUT_FILENO, n);
+pub fn number(rt: HostRuntime, name: &[u8], n: u64) {
+    text(rt, name);
+    let _ = print!(rt; "{n}");
 }
 
 // The same of a u32.
-pub fn small(name: &[u8], n: u32) {
-    number(name, n as u64);
+pub fn small(rt: HostRuntime, name: &[u8], n: u32) {
+    number(rt, name, n as u64);
 }
 
 // A name and the sign of a number.
-fn signed(name: &[u8], d: i32) {
-    text(name);
+fn signed(rt: HostRuntime, name: &[u8], d: i32) {
+    text(rt, name);
     if d < 0 {
-        text(b"below 0");
+        text(rt, b"below 0");
     } else {
-        if 0 < d { text(b"above 0") } else { text(b"0") }
+        if 0 < d {
+            text(rt, b"above 0")
+        } else {
+            text(rt, b"0")
+        }
     }
 }
 
 // The fields of a channel that have a range, of the reasons the first and the last, its count and
 // its lost count.
-pub fn show_channel(c: Channel) {
-    small(b"  mode ", c.mode);
-    small(b" route ", c.route);
-    small(b" mask ", c.mask);
-    small(b" count ", c.count);
-    small(b" kept ", c.kept);
-    signed(b" carry ", c.carry);
-    small(b" held ", c.held);
-    small(b" lost ", c.lost);
-    small(b" reasons ", c.reasons[0]);
-    small(b" ", c.reasons[15]);
-    text(b"\n");
+pub fn show_channel(rt: HostRuntime, c: Channel) {
+    small(rt, b"  mode ", c.mode);
+    small(rt, b" route ", c.route);
+    small(rt, b" mask ", c.mask);
+    small(rt, b" count ", c.count);
+    small(rt, b" kept ", c.kept);
+    signed(rt, b" carry ", c.carry);
+    small(rt, b" held ", c.held);
+    small(rt, b" lost ", c.lost);
+    small(rt, b" reasons ", c.reasons[0]);
+    small(rt, b" ", c.reasons[15]);
+    text(rt, b"\n");
 }
 
 // The planes that are not 0, each behind its number; without any, nothing.
-fn show_planes(name: &[u8], a: [u64; filters::PLANES]) {
+fn show_planes(rt: HostRuntime, name: &[u8], a: [u64; filters::PLANES]) {
     let mut found = false;
     for j in 0..filters::PLANES {
         if a[j] != 0 {
             if !found {
-                text(name);
+                text(rt, name);
                 found = true;
             }
-            small(b" ", j as u32);
-            number(b":", a[j]);
+            small(rt, b" ", j as u32);
+            number(rt, b":", a[j]);
         }
     }
     if found {
-        text(b"\n");
+        text(rt, b"\n");
     }
 }
 
 // The pins' words.
-pub fn show_pins(x: Pins) {
-    number(b"  level ", x.level);
-    number(b" driven ", x.driven);
-    number(b" own ", x.own);
-    number(b" safedata ", x.safedata);
-    number(b" safeenable ", x.safeenable);
-    number(b" source ", x.source0);
-    number(b" ", x.source1);
-    number(b" ", x.source2);
-    text(b"\n");
+pub fn show_pins(rt: HostRuntime, x: Pins) {
+    number(rt, b"  level ", x.level);
+    number(rt, b" driven ", x.driven);
+    number(rt, b" own ", x.own);
+    number(rt, b" safedata ", x.safedata);
+    number(rt, b" safeenable ", x.safeenable);
+    number(rt, b" source ", x.source0);
+    number(rt, b" ", x.source1);
+    number(rt, b" ", x.source2);
+    text(rt, b"\n");
     let f = x.filters;
     let filter = f.filter;
     let wait = f.wait;
-    show_planes(b"  filter", filter);
-    show_planes(b"  wait", wait);
+    show_planes(rt, b"  filter", filter);
+    show_planes(rt, b"  wait", wait);
 }
 
 // The outputs' words.
-pub fn show_virtuals(x: Virtuals) {
-    number(b"  outputs ", x.own);
-    number(b" safedata ", x.safedata);
-    number(b" safeenable ", x.safeenable);
-    text(b"\n");
+pub fn show_virtuals(rt: HostRuntime, x: Virtuals) {
+    number(rt, b"  outputs ", x.own);
+    number(rt, b" safedata ", x.safedata);
+    number(rt, b" safeenable ", x.safeenable);
+    text(rt, b"\n");
 }
 
 // A name and the numbers of the three stages.
-fn stages(name: &[u8], a: [u32; control::STAGES]) {
-    small(name, a[0]);
-    small(b" ", a[1]);
-    small(b" ", a[2]);
+fn stages(rt: HostRuntime, name: &[u8], a: [u32; control::STAGES]) {
+    small(rt, name, a[0]);
+    small(rt, b" ", a[1]);
+    small(rt, b" ", a[2]);
 }
 
 // The board's own part.
-pub fn show_core(k: Core) {
-    small(b"  prescaler ", k.clock.prescaler);
-    small(b" timestamp ", k.clock.timestamp);
-    small(b" control ", k.safety.control);
+pub fn show_core(rt: HostRuntime, k: Core) {
+    small(rt, b"  prescaler ", k.clock.prescaler);
+    small(rt, b" timestamp ", k.clock.timestamp);
+    small(rt, b" control ", k.safety.control);
     let d = k.watchdog;
     let intervals = d.intervals;
     let rests = d.rests;
-    stages(b" intervals ", intervals);
-    stages(b" rests ", rests);
-    small(b" expired ", d.expired);
-    text(b"\n");
+    stages(rt, b" intervals ", intervals);
+    stages(rt, b" rests ", rests);
+    small(rt, b" expired ", d.expired);
+    text(rt, b"\n");
 }
 
 // The four numbers of an answer.
-pub fn show_answer(name: &[u8], a: Answer) {
-    text(name);
-    small(b": ", a.result);
-    small(b" ", a.value);
-    small(b" ", a.timestamp);
-    small(b" ", a.reason);
-    text(b"\n");
+pub fn show_answer(rt: HostRuntime, name: &[u8], a: Answer) {
+    text(rt, name);
+    small(rt, b": ", a.result);
+    small(rt, b" ", a.value);
+    small(rt, b" ", a.timestamp);
+    small(rt, b" ", a.reason);
+    text(rt, b"\n");
 }
 
 // The answer and the next board, its channel 0 for all six.
-pub fn show(name: &[u8], o: Outcome) {
+pub fn show(rt: HostRuntime, name: &[u8], o: Outcome) {
     let answer = o.answer;
-    show_answer(name, answer);
+    show_answer(rt, name, answer);
     let b = o.board;
     let c = b.channels[0];
     let pins = b.pins;
     let virtuals = b.virtuals;
     let core = b.core;
-    show_channel(c);
-    show_pins(pins);
-    show_virtuals(virtuals);
-    show_core(core);
+    show_channel(rt, c);
+    show_pins(rt, pins);
+    show_virtuals(rt, virtuals);
+    show_core(rt, core);
 }

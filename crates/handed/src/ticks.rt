@@ -22,27 +22,27 @@ fn sampled(prescaler: u32, xs: u32) -> u32 {
 }
 
 // A row: the index by XS 8 to 15.
-fn show_row(prescaler: u32) {
-    small(b"C30, XS 8 to 15 in a step from prescaler ", prescaler);
-    small(b": ", sampled(prescaler, 8));
-    small(b" ", sampled(prescaler, 9));
-    small(b" ", sampled(prescaler, 10));
-    small(b" ", sampled(prescaler, 11));
-    small(b" ", sampled(prescaler, 12));
-    small(b" ", sampled(prescaler, 13));
-    small(b" ", sampled(prescaler, 14));
-    small(b" ", sampled(prescaler, 15));
-    text(b"\n");
+fn show_row(rt: HostRuntime, prescaler: u32) {
+    small(rt, b"C30, XS 8 to 15 in a step from prescaler ", prescaler);
+    small(rt, b": ", sampled(prescaler, 8));
+    small(rt, b" ", sampled(prescaler, 9));
+    small(rt, b" ", sampled(prescaler, 10));
+    small(rt, b" ", sampled(prescaler, 11));
+    small(rt, b" ", sampled(prescaler, 12));
+    small(rt, b" ", sampled(prescaler, 13));
+    small(rt, b" ", sampled(prescaler, 14));
+    small(rt, b" ", sampled(prescaler, 15));
+    text(rt, b"\n");
 }
 
-pub fn show_ticks() {
-    show_row(499_999_999);
-    show_row(249_999_999);
-    show_row(74_999_999);
-    show_row(7_499_999);
-    show_row(749_999);
-    show_row(74_999);
-    show_row(7_499);
-    show_row(749);
-    show_row(74);
+pub fn show_ticks(rt: HostRuntime) {
+    show_row(rt, 499_999_999);
+    show_row(rt, 249_999_999);
+    show_row(rt, 74_999_999);
+    show_row(rt, 7_499_999);
+    show_row(rt, 749_999);
+    show_row(rt, 74_999);
+    show_row(rt, 7_499);
+    show_row(rt, 749);
+    show_row(rt, 74);
 }

@@ -11,7 +11,6 @@ use board::Board;
 use buffers::RECORD;
 use calls::Event;
 use history::{AREA, BLOCK};
-use libc::STDOUT_FILENO;
 use room::{Needs, Tally};
 
 // The greatest V and W there are, and those of a step.
@@ -163,7 +162,7 @@ fn told(sort: Sort, n: u32, tail: usize, part: u32) -> Needs
     requires part_bound { part ≤ 4000 }
     requires tail_bound { tail ≤ 15 }
 {
-    let mut buf = io::large_buffer();
+    let mut buf = [0u8; 65536];
     let mut t = room::none();
     let mut left = n;
     while left > part {
@@ -183,7 +182,7 @@ fn told_at_once(sort: Sort, n: usize, tail: usize) -> Needs
     requires n_bound { n ≤ 4000 }
     requires tail_bound { tail ≤ 15 }
 {
-    let mut buf = io::large_buffer();
+    let mut buf = [0u8; 65536];
     let end = fill_last(sort, 0, n, tail, &mut buf);
     room::needs_of(&buf[..end])
 }
@@ -237,7 +236,7 @@ fn with_block(c: Came, h: &[u8], more: bool) -> Came
     requires blocks_bound { c.blocks < 65535 }
     ensures { result.blocks ≡ c.blocks + 1 }
 {
-    let mut out = io::buffer();
+    let mut out = [0u8; 4096];
     let k = c.blocks;
     let board = c.board;
     let block = block_of(h, k);
@@ -290,17 +289,17 @@ fn come(sort: Sort, n: u32) -> Came
 }
 
 // A number, and before it a space.
-fn show_number(n: u64) {
-    io::write_all(STDOUT_FILENO, b" ");
-    io::print_decimal(STDOUT_FILENO, n);
+fn show_number(rt: HostRuntime, n: u64) {
+    let _ = rt.write_all(b" ");
+    let _ = print!(rt; "{n}");
 }
 
-fn show_needs(n: Needs) {
-    show_number(n.result as u64);
-    show_number(n.blocks as u64);
-    show_number(n.steps as u64);
-    show_number(n.lines as u64);
-    show_number(n.bytes as u64);
+fn show_needs(rt: HostRuntime, n: Needs) {
+    show_number(rt, n.result as u64);
+    show_number(rt, n.blocks as u64);
+    show_number(rt, n.steps as u64);
+    show_number(rt, n.lines as u64);
+    show_number(rt, n.bytes as u64);
 }
 
 fn same(a: Needs, b: Needs) -> bool {
@@ -320,105 +319,105 @@ fn meets(n: Needs, c: Came) -> bool {
 }
 
 // Tells `ok` and the bytes that were printed, or all that came.
-fn verdict(n: Needs, c: Came) {
+fn verdict(rt: HostRuntime, n: Needs, c: Came) {
     if meets(n, c) {
-        io::write_all(STDOUT_FILENO, b" ok, printed");
+        let _ = rt.write_all(b" ok, printed");
     } else {
-        io::write_all(STDOUT_FILENO, b" differs: came");
-        show_number(c.blocks as u64);
-        show_number(c.steps);
-        show_number(c.lines);
+        let _ = rt.write_all(b" differs: came");
+        show_number(rt, c.blocks as u64);
+        show_number(rt, c.steps);
+        show_number(rt, c.lines);
     }
-    show_number(c.bytes);
+    show_number(rt, c.bytes);
 }
 
 // The line of a history.
-fn show(name: &[u8], sort: Sort, n: u32, tail: usize)
+fn show(rt: HostRuntime, name: &[u8], sort: Sort, n: u32, tail: usize)
     requires { tail ≤ 15 }
 {
-    io::write_all(STDOUT_FILENO, name);
-    show_number(n as u64);
-    show_number(tail as u64);
-    io::write_all(STDOUT_FILENO, b":");
+    let _ = rt.write_all(name);
+    show_number(rt, n as u64);
+    show_number(rt, tail as u64);
+    let _ = rt.write_all(b":");
     let needs = told(sort, n, tail, PART as u32);
-    show_needs(needs);
+    show_needs(rt, needs);
     let by_block = told(sort, n, tail, FULL);
     let by_record = told(sort, n, tail, 1);
     if !(same(needs, by_block) & same(needs, by_record)) {
-        io::write_all(STDOUT_FILENO, b" differs part by part");
+        let _ = rt.write_all(b" differs part by part");
     }
     if n as usize <= PART {
         if !same(needs, told_at_once(sort, n as usize, tail)) {
-            io::write_all(STDOUT_FILENO, b" differs at once");
+            let _ = rt.write_all(b" differs at once");
         }
     }
     if needs.result == 0 {
         if n as usize <= history::RECORDS {
-            verdict(needs, come(sort, n));
+            verdict(rt, needs, come(sort, n));
         }
     }
-    io::write_all(STDOUT_FILENO, b"\n");
+    let _ = rt.write_all(b"\n");
 }
 
 // The line of a tally handed in, to which n steps are added.
-fn show_tally(steps: u32, lines: u32, refused: bool, n: usize)
+fn show_tally(rt: HostRuntime, steps: u32, lines: u32, refused: bool, n: usize)
     requires { n ≤ 4000 }
 {
-    let mut buf = io::large_buffer();
+    let mut buf = [0u8; 65536];
     let t = Tally {
         steps: steps,
         lines: lines,
         refused: refused,
     };
     let len = RECORD * n;
-    io::write_all(STDOUT_FILENO, b"tally");
-    show_number(steps as u64);
-    show_number(lines as u64);
-    show_number(words::flag(refused) as u64);
-    io::write_all(STDOUT_FILENO, b":");
-    show_needs(t.needs());
-    io::write_all(STDOUT_FILENO, b" and with");
-    show_number(n as u64);
+    let _ = rt.write_all(b"tally");
+    show_number(rt, steps as u64);
+    show_number(rt, lines as u64);
+    show_number(rt, words::flag(refused) as u64);
+    let _ = rt.write_all(b":");
+    show_needs(rt, t.needs());
+    let _ = rt.write_all(b" and with");
+    show_number(rt, n as u64);
     fill(Sort::Steps, 0, n, &mut buf);
     let more = t.add(&buf[..len]);
-    show_needs(more.needs());
-    io::write_all(STDOUT_FILENO, b"\n");
+    show_needs(rt, more.needs());
+    let _ = rt.write_all(b"\n");
 }
 
-fn histories() {
-    show(b"steps", Sort::Steps, 0, 0);
-    show(b"steps", Sort::Steps, 1, 0);
-    show(b"steps", Sort::Steps, 31, 0);
-    show(b"steps", Sort::Steps, 32, 0);
-    show(b"steps", Sort::Steps, 2031585, 0);
-    show(b"steps", Sort::Steps, 2031586, 0);
-    show(b"steps", Sort::Steps, 0, 1);
-    show(b"steps", Sort::Steps, 1, 1);
-    show(b"steps", Sort::Steps, 4000, 15);
-    show(b"unfit", Sort::Unfit, 7, 0);
-    show(b"unfit", Sort::Unfit, 8, 0);
-    show(b"unfit", Sort::Unfit, 31, 0);
-    show(b"unfit", Sort::Unfit, 2031585, 0);
-    show(b"late", Sort::Late, 1000002, 0);
-    show(b"late", Sort::Late, 2031585, 0);
-    show(b"kinds", Sort::Kinds, 256, 0);
-    show(b"kinds", Sort::Kinds, 2031585, 0);
-    show(b"kinds", Sort::Kinds, 2031585, 8);
+fn histories(rt: HostRuntime) {
+    show(rt, b"steps", Sort::Steps, 0, 0);
+    show(rt, b"steps", Sort::Steps, 1, 0);
+    show(rt, b"steps", Sort::Steps, 31, 0);
+    show(rt, b"steps", Sort::Steps, 32, 0);
+    show(rt, b"steps", Sort::Steps, 2031585, 0);
+    show(rt, b"steps", Sort::Steps, 2031586, 0);
+    show(rt, b"steps", Sort::Steps, 0, 1);
+    show(rt, b"steps", Sort::Steps, 1, 1);
+    show(rt, b"steps", Sort::Steps, 4000, 15);
+    show(rt, b"unfit", Sort::Unfit, 7, 0);
+    show(rt, b"unfit", Sort::Unfit, 8, 0);
+    show(rt, b"unfit", Sort::Unfit, 31, 0);
+    show(rt, b"unfit", Sort::Unfit, 2031585, 0);
+    show(rt, b"late", Sort::Late, 1000002, 0);
+    show(rt, b"late", Sort::Late, 2031585, 0);
+    show(rt, b"kinds", Sort::Kinds, 256, 0);
+    show(rt, b"kinds", Sort::Kinds, 2031585, 0);
+    show(rt, b"kinds", Sort::Kinds, 2031585, 8);
 }
 
-fn tallies() {
-    show_tally(0, 0, false, 1);
-    show_tally(5, 26, false, 1);
-    show_tally(5, 26, true, 1);
-    show_tally(2031584, 0, false, 1);
-    show_tally(0, 2031585, false, 0);
-    show_tally(0, 2031585, false, 1);
-    show_tally(1, 2031585, false, 0);
-    show_tally(EVERY_V, EVERY_V, false, 1);
-    show_tally(EVERY_V, 2, false, 1);
+fn tallies(rt: HostRuntime) {
+    show_tally(rt, 0, 0, false, 1);
+    show_tally(rt, 5, 26, false, 1);
+    show_tally(rt, 5, 26, true, 1);
+    show_tally(rt, 2031584, 0, false, 1);
+    show_tally(rt, 0, 2031585, false, 0);
+    show_tally(rt, 0, 2031585, false, 1);
+    show_tally(rt, 1, 2031585, false, 0);
+    show_tally(rt, EVERY_V, EVERY_V, false, 1);
+    show_tally(rt, EVERY_V, 2, false, 1);
 }
 
-fn main() {
-    histories();
-    tallies();
+fn main(rt: HostRuntime) {
+    histories(rt);
+    tallies(rt);
 }

@@ -15,8 +15,7 @@ ghost use Rattle.std.specs.Prelude.{◌≡◌, ◌+◌, ◌<◌, ◌≤◌, leng
 use account::{Audit, Balance};
 use board::Board;
 use calls::Event;
-use libc::{EACCES, EFBIG, EISDIR, ENAMETOOLONG, ENOENT};
-use streams::File;
+use streams::{EACCES, EFBIG, EISDIR, ENAMETOOLONG, ENOENT, File};
 use textin::Text;
 
 // The number of channels.
@@ -74,79 +73,86 @@ struct Watch {
 }
 
 // Prints a text while standard output is open, which it is until a write fails.
-fn say(open: &mut bool, what: &[u8]) {
+fn say(rt: HostRuntime, open: &mut bool, what: &[u8]) {
     if *open {
-        *open = streams::print(b"scenarios", what);
+        *open = streams::print(rt, b"scenarios", what);
     }
 }
 
 // Prints a number in decimal.
-fn say_number(open: &mut bool, n: u64) {
+fn say_number(rt: HostRuntime, open: &mut bool, n: u64) {
     let mut digits = [0u8; DIGITS];
-    let k = io::decimal(n, &mut digits);
-    say(open, &digits[..k]);
+    let k = text::put_decimal(&mut digits, 0, n);
+    say(rt, open, &digits[..k]);
 }
 
 // A line that was expected or that came; an empty one is none.
-fn show(open: &mut bool, what: &[u8], line: &[u8]) {
-    say(open, what);
+fn show(rt: HostRuntime, open: &mut bool, what: &[u8], line: &[u8]) {
+    say(rt, open, what);
     if line.len() == 0 {
-        say(open, b"nothing");
+        say(rt, open, b"nothing");
     } else {
-        say(open, line);
+        say(rt, open, line);
     }
-    say(open, b"\n");
+    say(rt, open, b"\n");
 }
 
 // The line of a text that starts at `at`, without its line feed; an empty one past the end.
-fn show_line(open: &mut bool, what: &[u8], text: &[u8], at: usize) {
+fn show_line(rt: HostRuntime, open: &mut bool, what: &[u8], text: &[u8], at: usize) {
     if at > text.len() {
-        show(open, what, b"");
+        show(rt, open, what, b"");
         return;
     }
     let to = scan::part_end(text, at, false);
-    show(open, what, &text[at..to]);
+    show(rt, open, what, &text[at..to]);
 }
 
 // Tells what a limit is for, and the limit.
-fn tell_limit(open: &mut bool, what: &[u8], limit: usize) {
-    say(open, what);
-    say_number(open, limit as u64);
-    say(open, b" bytes\n");
+fn tell_limit(rt: HostRuntime, open: &mut bool, what: &[u8], limit: usize) {
+    say(rt, open, what);
+    say_number(rt, open, limit as u64);
+    say(rt, open, b" bytes\n");
 }
 
 // Tells why a file was not read whole.
-fn tell_file(open: &mut bool, name: &[u8], ending: &[u8], error: i32) {
-    say(open, name);
-    say(open, ending);
+fn tell_file(rt: HostRuntime, open: &mut bool, name: &[u8], ending: &[u8], error: i32) {
+    say(rt, open, name);
+    say(rt, open, ending);
     if error == EFBIG {
-        tell_limit(open, b" has more than ", SIZE);
+        tell_limit(rt, open, b" has more than ", SIZE);
     } else if error == ENAMETOOLONG {
-        tell_limit(open, b" is a name of more than ", streams::PATH);
+        tell_limit(rt, open, b" is a name of more than ", streams::PATH);
     } else if error == ENOENT {
-        say(open, b" is missing\n");
+        say(rt, open, b" is missing\n");
     } else if error == EISDIR {
-        say(open, b" is a folder\n");
+        say(rt, open, b" is a folder\n");
     } else if error == EACCES {
-        say(open, b" may not be read\n");
+        say(rt, open, b" may not be read\n");
     } else {
-        say(open, b" cannot be read\n");
+        say(rt, open, b" cannot be read\n");
     }
 }
 
 // Reads a file of a history. If it is not read whole, that is told, unless it is missing and not
 // needed, which is an empty file.
-fn load(open: &mut bool, name: &[u8], ending: &[u8], needed: bool, buf: &mut [u8]) -> File
+fn load(
+    rt: HostRuntime,
+    open: &mut bool,
+    name: &[u8],
+    ending: &[u8],
+    needed: bool,
+    buf: &mut [u8],
+) -> File
     ensures { result.count ≤ length buf.new }
 {
-    let f = streams::load(name, ending, buf);
+    let f = streams::load(rt, name, ending, buf);
     if f.error == 0 {
         return f;
     }
     if !needed & (f.error == ENOENT) {
         return File { count: 0, error: 0 };
     }
-    tell_file(open, name, ending, f.error);
+    tell_file(rt, open, name, ending, f.error);
     f
 }
 
@@ -238,27 +244,35 @@ fn send_times(c: Course, e: Event, times: u32, log: &[u8], line: &mut [u8]) -> C
 }
 
 // Tells a bad line of a text.
-fn tell_bad(open: &mut bool, name: &[u8], t: Text) {
-    say(open, name);
-    say(open, b": line ");
-    say_number(open, t.lines);
-    say(open, b" of the text is bad, wanted ");
-    say_number(open, t.wanted as u64);
-    say(open, b"\n");
+fn tell_bad(rt: HostRuntime, open: &mut bool, name: &[u8], t: Text) {
+    say(rt, open, name);
+    say(rt, open, b": line ");
+    say_number(rt, open, t.lines);
+    say(rt, open, b" of the text is bad, wanted ");
+    say_number(rt, open, t.wanted as u64);
+    say(rt, open, b"\n");
 }
 
 // Tells where a log differs.
-fn tell_answer(open: &mut bool, name: &[u8], t: Text, l: Log, log: &[u8], line: &[u8])
+fn tell_answer(
+    rt: HostRuntime,
+    open: &mut bool,
+    name: &[u8],
+    t: Text,
+    l: Log,
+    log: &[u8],
+    line: &[u8],
+)
     requires { l.at ≤ 65536 }
 {
-    say(open, name);
-    say(open, b".log line ");
-    say_number(open, std::num::wrapping_add_u64(l.lines, 1));
-    say(open, b", at line ");
-    say_number(open, t.lines);
-    say(open, b" of the text\n");
-    show_line(open, b"  expected ", log, l.at);
-    show_line(open, b"  came     ", line, 0);
+    say(rt, open, name);
+    say(rt, open, b".log line ");
+    say_number(rt, open, std::num::wrapping_add_u64(l.lines, 1));
+    say(rt, open, b", at line ");
+    say_number(rt, open, t.lines);
+    say(rt, open, b" of the text\n");
+    show_line(rt, open, b"  expected ", log, l.at);
+    show_line(rt, open, b"  came     ", line, 0);
 }
 
 // A text before its first line.
@@ -288,7 +302,7 @@ fn start() -> Course
 }
 
 // Runs a text and compares its answers with the log. The answer is whether all agree.
-fn run_answers(open: &mut bool, name: &[u8], text: &[u8], log: &[u8]) -> bool
+fn run_answers(rt: HostRuntime, open: &mut bool, name: &[u8], text: &[u8], log: &[u8]) -> bool
     requires { length log.now ≤ 65536 }
 {
     let mut line = [0u8; 126];
@@ -300,26 +314,26 @@ fn run_answers(open: &mut bool, name: &[u8], text: &[u8], log: &[u8]) -> bool
         let added = textin::add_line(t, &text[from..to]);
         t = added.text;
         if t.wanted != 0 {
-            tell_bad(open, name, t);
+            tell_bad(rt, open, name, t);
             return false;
         }
         let said = added.line;
         c = send_times(c, said.event, said.times, log, &mut line);
         if c.log.wrong {
             let n = c.log.came;
-            tell_answer(open, name, t, c.log, log, &line[..n]);
+            tell_answer(rt, open, name, t, c.log, log, &line[..n]);
             return false;
         }
         from = to + 1;
     }
     if c.log.at < log.len() {
-        tell_answer(open, name, t, c.log, log, b"");
+        tell_answer(rt, open, name, t, c.log, log, b"");
         return false;
     }
-    say(open, name);
-    say(open, b": ");
-    say_number(open, c.log.lines);
-    say(open, b" answers");
+    say(rt, open, name);
+    say(rt, open, b": ");
+    say_number(rt, open, c.log.lines);
+    say(rt, open, b" answers");
     true
 }
 
@@ -522,18 +536,26 @@ fn output_of(line: &[u8]) -> Output {
 }
 
 // Tells where the levels differ.
-fn tell_level(open: &mut bool, name: &[u8], number: u64, line: &[u8], came: &[u8]) {
-    say(open, b"\n");
-    say(open, name);
-    say(open, b".levels line ");
-    say_number(open, number);
-    say(open, b"\n");
-    show(open, b"  expected ", line);
-    show(open, b"  came     ", came);
+fn tell_level(
+    rt: HostRuntime,
+    open: &mut bool,
+    name: &[u8],
+    number: u64,
+    line: &[u8],
+    came: &[u8],
+) {
+    say(rt, open, b"\n");
+    say(rt, open, name);
+    say(rt, open, b".levels line ");
+    say_number(rt, open, number);
+    say(rt, open, b"\n");
+    show(rt, open, b"  expected ", line);
+    show(rt, open, b"  came     ", came);
 }
 
 // Whether a line of the levels agrees with the run; else the difference is told.
 fn run_level(
+    rt: HostRuntime,
     open: &mut bool,
     name: &[u8],
     number: u64,
@@ -546,20 +568,27 @@ fn run_level(
 {
     let o = output_of(line);
     if o.letter == 0 {
-        tell_level(open, name, number, line, b"no such output");
+        tell_level(rt, open, name, number, line, b"no such output");
         return false;
     }
     let word = scan::part_end(line, 0, true);
     buffers::copy_to(&line[..word], out, 0);
     let n = watch_text(text, o, out, word);
     if n == SIZE {
-        tell_level(open, name, number, line, b"more spans than fit 65536 bytes");
+        tell_level(
+            rt,
+            open,
+            name,
+            number,
+            line,
+            b"more spans than fit 65536 bytes",
+        );
         return false;
     }
     if scan::same(line, &out[..n]) {
         return true;
     }
-    tell_level(open, name, number, line, &out[..n]);
+    tell_level(rt, open, name, number, line, &out[..n]);
     false
 }
 
@@ -572,7 +601,14 @@ fn is_level(line: &[u8]) -> bool {
 }
 
 // Looks at all outputs that the levels name, and tells how many agree.
-fn look_all(open: &mut bool, name: &[u8], text: &[u8], levels: &[u8], out: &mut [u8])
+fn look_all(
+    rt: HostRuntime,
+    open: &mut bool,
+    name: &[u8],
+    text: &[u8],
+    levels: &[u8],
+    out: &mut [u8],
+)
     requires out_len { length out.old ≡ 65536 }
     requires levels_len_bound { length levels.now ≤ 65536 }
 {
@@ -583,16 +619,16 @@ fn look_all(open: &mut bool, name: &[u8], text: &[u8], levels: &[u8], out: &mut 
         let to = scan::part_end(levels, from, false);
         number = std::num::wrapping_add_u64(number, 1);
         if is_level(&levels[from..to]) {
-            if !run_level(open, name, number, text, &levels[from..to], out) {
+            if !run_level(rt, open, name, number, text, &levels[from..to], out) {
                 return;
             }
             good = std::num::wrapping_add_u64(good, 1);
         }
         from = to + 1;
     }
-    say(open, b", ");
-    say_number(open, good);
-    say(open, b" levels\n");
+    say(rt, open, b", ");
+    say_number(rt, open, good);
+    say(rt, open, b" levels\n");
 }
 
 // Sends an event so many times, with the accounts kept.
@@ -607,37 +643,37 @@ fn audit_times(a: Audit, e: Event, times: u32) -> Audit {
 }
 
 // Prints a number and what it is.
-fn say_count(open: &mut bool, n: u64, what: &[u8]) {
-    say_number(open, n);
-    say(open, what);
+fn say_count(rt: HostRuntime, open: &mut bool, n: u64, what: &[u8]) {
+    say_number(rt, open, n);
+    say(rt, open, what);
 }
 
 // Tells the account of a channel.
-fn tell_balance(open: &mut bool, channel: usize, n: Balance) {
-    say(open, b"  channel ");
-    say_count(open, channel as u64, b": ");
-    say_count(open, n.made, b" made, ");
-    say_count(open, n.handed, b" handed out, ");
-    say_count(open, n.held, b" held, ");
-    say_count(open, n.reported, b" reported, ");
-    say_count(open, n.unreported, b" unreported\n");
+fn tell_balance(rt: HostRuntime, open: &mut bool, channel: usize, n: Balance) {
+    say(rt, open, b"  channel ");
+    say_count(rt, open, channel as u64, b": ");
+    say_count(rt, open, n.made, b" made, ");
+    say_count(rt, open, n.handed, b" handed out, ");
+    say_count(rt, open, n.held, b" held, ");
+    say_count(rt, open, n.reported, b" reported, ");
+    say_count(rt, open, n.unreported, b" unreported\n");
 }
 
 // Tells the account of each channel that has one.
-fn tell_accounts(open: &mut bool, a: Audit) {
+fn tell_accounts(rt: HostRuntime, open: &mut bool, a: Audit) {
     let accounts = a.accounts;
     let board = a.board;
     let channels = board.channels;
     for i in 0..board::CHANNELS {
         let n = account::balance_of(accounts[i], channels[i]);
         if (n.made | n.handed | n.held | n.reported | n.unreported) != 0 {
-            tell_balance(open, i, n);
+            tell_balance(rt, open, i, n);
         }
     }
 }
 
 // Runs a text, and tells its accounts.
-fn audit_text(open: &mut bool, text: &[u8]) {
+fn audit_text(rt: HostRuntime, open: &mut bool, text: &[u8]) {
     let mut a = account::start();
     let mut from: usize = 0;
     while from <= text.len() {
@@ -646,23 +682,32 @@ fn audit_text(open: &mut bool, text: &[u8]) {
         a = audit_times(a, said.event, said.times);
         from = to + 1;
     }
-    tell_accounts(open, a);
+    tell_accounts(rt, open, a);
 }
 
 // Runs a history, compares its answers and then its levels, and audits it.
-fn compare(open: &mut bool, name: &[u8], text: &[u8], log: &[u8], levels: &[u8], out: &mut [u8])
+fn compare(
+    rt: HostRuntime,
+    open: &mut bool,
+    name: &[u8],
+    text: &[u8],
+    log: &[u8],
+    levels: &[u8],
+    out: &mut [u8],
+)
     requires log_len_bound { length log.now ≤ 65536 }
     requires levels_len_bound { length levels.now ≤ 65536 }
     requires out_len { length out.old ≡ 65536 }
 {
-    if run_answers(open, name, text, log) {
-        look_all(open, name, text, levels, out);
-        audit_text(open, text);
+    if run_answers(rt, open, name, text, log) {
+        look_all(rt, open, name, text, levels, out);
+        audit_text(rt, open, text);
     }
 }
 
 // Reads the files of one history, and runs it if all are read.
 fn run(
+    rt: HostRuntime,
     open: &mut bool,
     name: &[u8],
     text: &mut [u8],
@@ -675,26 +720,33 @@ fn run(
     requires levels_len { length levels.old ≡ 65536 }
     requires out_len { length out.old ≡ 65536 }
 {
-    let t = load(open, name, b".txt", true, text);
+    let t = load(rt, open, name, b".txt", true, text);
     if t.error != 0 {
         return;
     }
-    let l = load(open, name, b".log", true, log);
+    let l = load(rt, open, name, b".log", true, log);
     if l.error != 0 {
         return;
     }
-    let v = load(open, name, b".levels", false, levels);
+    let v = load(rt, open, name, b".levels", false, levels);
     if v.error != 0 {
         return;
     }
     let nt = t.count;
     let nl = l.count;
     let nv = v.count;
-    compare(open, name, &text[..nt], &log[..nl], &levels[..nv], out);
+    compare(rt, open, name, &text[..nt], &log[..nl], &levels[..nv], out);
 }
 
 // Runs every history of a list, as long as standard output takes what is said.
-fn run_all(list: &[u8], text: &mut [u8], log: &mut [u8], levels: &mut [u8], out: &mut [u8])
+fn run_all(
+    rt: HostRuntime,
+    list: &[u8],
+    text: &mut [u8],
+    log: &mut [u8],
+    levels: &mut [u8],
+    out: &mut [u8],
+)
     requires list_len_bound { length list.now ≤ 65536 }
     requires text_len { length text.old ≡ 65536 }
     requires log_len { length log.old ≡ 65536 }
@@ -705,7 +757,7 @@ fn run_all(list: &[u8], text: &mut [u8], log: &mut [u8], levels: &mut [u8], out:
     let mut from: usize = 0;
     while from < list.len() {
         let to = scan::part_end(list, from, false);
-        run(&mut open, &list[from..to], text, log, levels, out);
+        run(rt, &mut open, &list[from..to], text, log, levels, out);
         if !open {
             return;
         }
@@ -714,19 +766,19 @@ fn run_all(list: &[u8], text: &mut [u8], log: &mut [u8], levels: &mut [u8], out:
 }
 
 // Runs every history that standard input names.
-fn main() {
-    if !streams::is_ready(b"scenarios") {
+fn main(rt: HostRuntime) {
+    if !streams::is_ready(rt, b"scenarios") {
         return;
     }
-    let mut list = io::large_buffer();
-    let mut text = io::large_buffer();
-    let mut log = io::large_buffer();
-    let mut levels = io::large_buffer();
-    let mut out = io::large_buffer();
-    let got = streams::read_all(b"scenarios", &mut list);
-    if got.failed {
+    let mut list = [0u8; 65536];
+    let mut text = [0u8; 65536];
+    let mut log = [0u8; 65536];
+    let mut levels = [0u8; 65536];
+    let mut out = [0u8; 65536];
+    let got = streams::read_all(rt, b"scenarios", &mut list);
+    if got.error != 0 {
         return;
     }
     let n = got.count;
-    run_all(&list[..n], &mut text, &mut log, &mut levels, &mut out);
+    run_all(rt, &list[..n], &mut text, &mut log, &mut levels, &mut out);
 }

@@ -25,7 +25,6 @@ use account::{Audit, Balance};
 use board::{Board, CHANNELS};
 use buffers::RECORD;
 use history::{AREA, BLOCK, Transfer};
-use libc::STDOUT_FILENO;
 use room::Needs;
 
 // What an output is filled with before a test.
@@ -115,13 +114,13 @@ fn common(a: &[u8], b: &[u8]) -> usize
 
 // Reads the file of the given name and ending into buf, and answers its length. Where it is not read
 // whole, that is told.
-fn load(name: &[u8], ending: &[u8], buf: &mut [u8]) -> usize
+fn load(rt: HostRuntime, name: &[u8], ending: &[u8], buf: &mut [u8]) -> usize
     requires { length buf.old ≡ 65536 }
     ensures { result ≤ length buf.new }
 {
-    let got = streams::load(name, ending, buf);
+    let got = streams::load(rt, name, ending, buf);
     if got.error != 0 {
-        io::write_all(STDOUT_FILENO, b": a file is missing or not read whole;");
+        let _ = rt.write_all(b": a file is missing or not read whole;");
     }
     got.count
 }
@@ -279,45 +278,46 @@ fn line_start(text: &[u8], at: usize) -> usize
 }
 
 // Prints the line of place `at`, or that there is none.
-fn show_line(text: &[u8], at: usize)
+fn show_line(rt: HostRuntime, text: &[u8], at: usize)
     requires { at ≤ length text.now }
 {
     let from = line_start(text, at);
     if from == text.len() {
-        io::write_all(STDOUT_FILENO, b"    nothing\n");
+        let _ = rt.write_all(b"    nothing\n");
         return;
     }
     let to = scan::part_end(text, from, false);
-    io::write_all(STDOUT_FILENO, b"    ");
-    io::write_all(STDOUT_FILENO, &text[from..to]);
-    io::write_all(STDOUT_FILENO, b"\n");
+    let _ = rt.write_all(b"    ");
+    let _ = rt.write_all(&text[from..to]);
+    let _ = rt.write_all(b"\n");
 }
 
 // Compares a log with what is expected.
-fn compare(expected: &[u8], came: &[u8]) {
+fn compare(rt: HostRuntime, expected: &[u8], came: &[u8]) {
     if scan::same(expected, came) {
-        io::write_all(STDOUT_FILENO, b" ok\n");
+        let _ = rt.write_all(b" ok\n");
         return;
     }
     let at = common(expected, came);
-    io::write_all(STDOUT_FILENO, b" differs in line ");
-    io::print_decimal(STDOUT_FILENO, line_number(expected, at));
-    io::write_all(STDOUT_FILENO, b"\n  expected\n");
-    show_line(expected, at);
-    io::write_all(STDOUT_FILENO, b"  came\n");
-    show_line(came, at);
+    let _ = rt.write_all(b" differs in line ");
+    let number = line_number(expected, at);
+    let _ = print!(rt; "{number}");
+    let _ = rt.write_all(b"\n  expected\n");
+    show_line(rt, expected, at);
+    let _ = rt.write_all(b"  came\n");
+    show_line(rt, came, at);
 }
 
 // `log NAME`.
-fn test_log(name: &[u8], file: &mut [u8], log: &mut [u8], out: &mut [u8])
+fn test_log(rt: HostRuntime, name: &[u8], file: &mut [u8], log: &mut [u8], out: &mut [u8])
     requires file_len { length file.old ≡ 65536 }
     requires log_len { length log.old ≡ 65536 }
     requires out_len { length out.old ≡ 65536 }
 {
-    let n = load(name, b".hist", file);
-    let m = load(name, b".log", log);
+    let n = load(rt, name, b".hist", file);
+    let m = load(rt, name, b".log", log);
     let w = log_file(&file[..n], out);
-    compare(&log[..m], &out[..w]);
+    compare(rt, &log[..m], &out[..w]);
 }
 
 // The column file of a row file, and behind it the line of a bad place, at the start of out.
@@ -346,40 +346,40 @@ fn turn_file(file: &[u8], out: &mut [u8]) -> Turned
 }
 
 // `turn NAME`.
-fn test_turn(name: &[u8], file: &mut [u8], log: &mut [u8], out: &mut [u8])
+fn test_turn(rt: HostRuntime, name: &[u8], file: &mut [u8], log: &mut [u8], out: &mut [u8])
     requires file_len { length file.old ≡ 65536 }
     requires log_len { length log.old ≡ 65536 }
     requires out_len { length out.old ≡ 65536 }
 {
-    let n = load(name, b".hist", file);
-    let m = load(name, b".log", log);
+    let n = load(rt, name, b".hist", file);
+    let m = load(rt, name, b".log", log);
     let t = turn_file(&file[..n], out);
     let from = t.file;
     let to = t.all;
     let w = log_file(&out[..from], file);
     if to - from > SIZE - w {
-        io::write_all(STDOUT_FILENO, b" is too long\n");
+        let _ = rt.write_all(b" is too long\n");
         return;
     }
     buffers::copy_to(&out[from..to], file, w);
     let all = w + (to - from);
-    compare(&log[..m], &file[..all]);
+    compare(rt, &log[..m], &file[..all]);
 }
 
 // Tells `ok`, or what came in place of a row's result and last number.
-fn verdict(row: Row, res: u8, written: usize, sound: bool) {
+fn verdict(rt: HostRuntime, row: Row, res: u8, written: usize, sound: bool) {
     if sound & (res as u64 == row.result) & (written as u64 == row.bytes) {
-        io::write_all(STDOUT_FILENO, b" ok\n");
+        let _ = rt.write_all(b" ok\n");
         return;
     }
-    io::write_all(STDOUT_FILENO, b" differs: came ");
-    io::print_decimal(STDOUT_FILENO, res as u64);
-    io::write_all(STDOUT_FILENO, b" ");
-    io::print_decimal(STDOUT_FILENO, written as u64);
+    let _ = rt.write_all(b" differs: came ");
+    let _ = print!(rt; "{res}");
+    let _ = rt.write_all(b" ");
+    let _ = print!(rt; "{written}");
     if !sound {
-        io::write_all(STDOUT_FILENO, b", output or way back wrong");
+        let _ = rt.write_all(b", output or way back wrong");
     }
-    io::write_all(STDOUT_FILENO, b"\n");
+    let _ = rt.write_all(b"\n");
 }
 
 // Whether a transfer was accepted and left what is expected at the start of out.
@@ -466,27 +466,40 @@ fn comes_back(h: &[u8], file: &[u8], out: &mut [u8]) -> bool {
 }
 
 // `read NAME ROOM RESULT BYTES`.
-fn test_read(name: &[u8], row: Row, file: &mut [u8], out: &mut [u8], back: &mut [u8])
+fn test_read(
+    rt: HostRuntime,
+    name: &[u8],
+    row: Row,
+    file: &mut [u8],
+    out: &mut [u8],
+    back: &mut [u8],
+)
     requires file_len { length file.old ≡ 65536 }
     requires out_len { length out.old ≡ 65536 }
     requires back_len { length back.old ≡ 65536 }
     requires room_bound { row.room ≤ 65536 }
 {
-    let n = load(name, b".hist", file);
+    let n = load(rt, name, b".hist", file);
     let room = row.room;
     mark(out);
     let t = history::read(&file[..n], &mut out[..room]);
     let w = t.written;
     if w > room {
-        verdict(row, t.result, w, false);
+        verdict(rt, row, t.result, w, false);
         return;
     }
     let kept = all_from(out, w, MARK);
     if t.result != 0 {
-        verdict(row, t.result, w, kept);
+        verdict(rt, row, t.result, w, kept);
         return;
     }
-    verdict(row, 0, w, kept & comes_back(&out[..w], &file[..n], back));
+    verdict(
+        rt,
+        row,
+        0,
+        w,
+        kept & comes_back(&out[..w], &file[..n], back),
+    );
 }
 
 // The board and the accounts after the records of a history.
@@ -500,52 +513,52 @@ fn audited(h: &[u8]) -> Audit {
 }
 
 // Prints a space and a number.
-fn show_number(n: u64) {
-    io::write_all(STDOUT_FILENO, b" ");
-    io::print_decimal(STDOUT_FILENO, n);
+fn show_number(rt: HostRuntime, n: u64) {
+    let _ = rt.write_all(b" ");
+    let _ = print!(rt; "{n}");
 }
 
 // Prints the account of a channel.
-fn show_balance(channel: usize, n: Balance) {
-    io::write_all(STDOUT_FILENO, b" ");
-    show_number(channel as u64);
-    show_number(n.made);
-    show_number(n.handed);
-    show_number(n.held);
-    show_number(n.reported);
-    show_number(n.unreported);
-    io::write_all(STDOUT_FILENO, b"\n");
+fn show_balance(rt: HostRuntime, channel: usize, n: Balance) {
+    let _ = rt.write_all(b" ");
+    show_number(rt, channel as u64);
+    show_number(rt, n.made);
+    show_number(rt, n.handed);
+    show_number(rt, n.held);
+    show_number(rt, n.reported);
+    show_number(rt, n.unreported);
+    let _ = rt.write_all(b"\n");
 }
 
 // Prints the account of each channel that has one.
-fn show_accounts(a: Audit) {
+fn show_accounts(rt: HostRuntime, a: Audit) {
     let accounts = a.accounts;
     let board = a.board;
     let channels = board.channels;
     for i in 0..CHANNELS {
         let n = account::balance_of(accounts[i], channels[i]);
         if (n.made | n.handed | n.held | n.reported | n.unreported) != 0 {
-            show_balance(i, n);
+            show_balance(rt, i, n);
         }
     }
 }
 
 // `audit NAME`.
-fn test_audit(name: &[u8], file: &mut [u8], out: &mut [u8])
+fn test_audit(rt: HostRuntime, name: &[u8], file: &mut [u8], out: &mut [u8])
     requires file_len { length file.old ≡ 65536 }
     requires out_len { length out.old ≡ 65536 }
 {
-    let n = load(name, b".hist", file);
+    let n = load(rt, name, b".hist", file);
     let t = history::read(&file[..n], out);
     let w = t.written;
     if t.result == 0 {
         if w <= SIZE {
-            io::write_all(STDOUT_FILENO, b"\n");
-            show_accounts(audited(&out[..w]));
+            let _ = rt.write_all(b"\n");
+            show_accounts(rt, audited(&out[..w]));
             return;
         }
     }
-    io::write_all(STDOUT_FILENO, b" is not read\n");
+    let _ = rt.write_all(b" is not read\n");
 }
 
 // Whether a history of n records, a file of so many bytes and a log are as it is told.
@@ -558,40 +571,40 @@ fn meets(needs: Needs, n: usize, bytes: usize, log: &[u8]) -> bool {
 }
 
 // Prints what a history needs, and compares it with a file of so many bytes and its log.
-fn show_needs(h: &[u8], bytes: usize, log: &[u8]) {
+fn show_needs(rt: HostRuntime, h: &[u8], bytes: usize, log: &[u8]) {
     let needs = room::needs_of(h);
-    show_number(needs.blocks as u64);
-    show_number(needs.steps as u64);
-    show_number(needs.lines as u64);
-    show_number(needs.bytes as u64);
+    show_number(rt, needs.blocks as u64);
+    show_number(rt, needs.steps as u64);
+    show_number(rt, needs.lines as u64);
+    show_number(rt, needs.bytes as u64);
     if (needs.result == 0) & meets(needs, h.len() / RECORD, bytes, log) {
-        io::write_all(STDOUT_FILENO, b" ok\n");
+        let _ = rt.write_all(b" ok\n");
         return;
     }
-    io::write_all(STDOUT_FILENO, b" differs\n");
+    let _ = rt.write_all(b" differs\n");
 }
 
 // `needs NAME`.
-fn test_needs(name: &[u8], file: &mut [u8], log: &mut [u8], out: &mut [u8])
+fn test_needs(rt: HostRuntime, name: &[u8], file: &mut [u8], log: &mut [u8], out: &mut [u8])
     requires file_len { length file.old ≡ 65536 }
     requires log_len { length log.old ≡ 65536 }
     requires out_len { length out.old ≡ 65536 }
 {
-    let n = load(name, b".hist", file);
-    let m = load(name, b".log", log);
+    let n = load(rt, name, b".hist", file);
+    let m = load(rt, name, b".log", log);
     let t = history::read(&file[..n], out);
     let w = t.written;
     if t.result == 0 {
         if w <= SIZE {
-            show_needs(&out[..w], n, &log[..m]);
+            show_needs(rt, &out[..w], n, &log[..m]);
             return;
         }
     }
-    io::write_all(STDOUT_FILENO, b" is not read\n");
+    let _ = rt.write_all(b" is not read\n");
 }
 
 // `write LENGTH ROOM RESULT BYTES`.
-fn test_write(n: usize, row: Row, file: &mut [u8], out: &mut [u8], back: &mut [u8])
+fn test_write(rt: HostRuntime, n: usize, row: Row, file: &mut [u8], out: &mut [u8], back: &mut [u8])
     requires file_len { length file.old ≡ 65536 }
     requires out_len { length out.old ≡ 65536 }
     requires back_len { length back.old ≡ 65536 }
@@ -604,19 +617,19 @@ fn test_write(n: usize, row: Row, file: &mut [u8], out: &mut [u8], back: &mut [u
     let t = history::write(&file[..n], &mut out[..room]);
     let w = t.written;
     if w > room {
-        verdict(row, t.result, w, false);
+        verdict(rt, row, t.result, w, false);
         return;
     }
     let kept = all_from(out, w, MARK);
     if t.result != 0 {
-        verdict(row, t.result, w, kept);
+        verdict(rt, row, t.result, w, kept);
         return;
     }
-    verdict(row, 0, w, kept & reads_as(&out[..w], &file[..n], back));
+    verdict(rt, row, 0, w, kept & reads_as(&out[..w], &file[..n], back));
 }
 
 // `long BLOCKS TAIL RESULT PLACE`.
-fn test_long(n: usize, row: Row, file: &mut [u8], out: &mut [u8])
+fn test_long(rt: HostRuntime, n: usize, row: Row, file: &mut [u8], out: &mut [u8])
     requires file_len { length file.old ≡ 65536 }
     requires out_len { length out.old ≡ 65536 }
     requires room_bound { row.room ≤ 65536 }
@@ -627,7 +640,7 @@ fn test_long(n: usize, row: Row, file: &mut [u8], out: &mut [u8])
     let s = log_long(n as u32, &file[..tail], out);
     let w = s.at;
     let sound = is_place_line(s.place, s.result, &out[..w]);
-    verdict(row, s.result, s.place as usize, sound);
+    verdict(rt, row, s.result, s.place as usize, sound);
 }
 
 // The number behind the separator at `at`, 0 where there is none, and the place behind it.
@@ -664,60 +677,60 @@ fn row_at(text: &[u8], at: usize) -> Row
 
 // The test of a row with nothing behind the name of its file, by the first letter: `turn`, `audit` or
 // `needs`.
-fn test_name(b: u8, name: &[u8], file: &mut [u8], out: &mut [u8], back: &mut [u8])
+fn test_name(rt: HostRuntime, b: u8, name: &[u8], file: &mut [u8], out: &mut [u8], back: &mut [u8])
     requires file_len { length file.old ≡ 65536 }
     requires out_len { length out.old ≡ 65536 }
     requires back_len { length back.old ≡ 65536 }
 {
     if b == b't' {
-        test_turn(name, file, back, out);
+        test_turn(rt, name, file, back, out);
         return;
     }
     if b == b'a' {
-        test_audit(name, file, out);
+        test_audit(rt, name, file, out);
         return;
     }
-    test_needs(name, file, back, out);
+    test_needs(rt, name, file, back, out);
 }
 
 // The test in a line of the table.
-fn test(line: &[u8], file: &mut [u8], out: &mut [u8], back: &mut [u8])
+fn test(rt: HostRuntime, line: &[u8], file: &mut [u8], out: &mut [u8], back: &mut [u8])
     requires file_len { length file.old ≡ 65536 }
     requires out_len { length out.old ≡ 65536 }
     requires back_len { length back.old ≡ 65536 }
 {
-    io::write_all(STDOUT_FILENO, line);
+    let _ = rt.write_all(line);
     let w = scan::part_end(line, 0, true);
     if w >= line.len() {
-        io::write_all(STDOUT_FILENO, b" no test\n");
+        let _ = rt.write_all(b" no test\n");
         return;
     }
     let from = w + 1;
     let to = scan::part_end(line, from, true);
     let b = line[0];
     if (b == b'l') & (w == 3) {
-        test_log(&line[from..to], file, back, out);
+        test_log(rt, &line[from..to], file, back, out);
         return;
     }
     if (b == b't') | (b == b'a') | (b == b'n') {
-        test_name(b, &line[from..to], file, out, back);
+        test_name(rt, b, &line[from..to], file, out, back);
         return;
     }
     let row = row_at(line, to);
     if b == b'r' {
-        test_read(&line[from..to], row, file, out, back);
+        test_read(rt, &line[from..to], row, file, out, back);
         return;
     }
     let n = number_at(line, w);
     if b == b'l' {
-        test_long(size(n.value), row, file, out);
+        test_long(rt, size(n.value), row, file, out);
         return;
     }
-    test_write(size(n.value), row, file, out, back);
+    test_write(rt, size(n.value), row, file, out, back);
 }
 
 // Every line of the table.
-fn run(table: &[u8], file: &mut [u8], out: &mut [u8], back: &mut [u8])
+fn run(rt: HostRuntime, table: &[u8], file: &mut [u8], out: &mut [u8], back: &mut [u8])
     requires file_len { length file.old ≡ 65536 }
     requires out_len { length out.old ≡ 65536 }
     requires back_len { length back.old ≡ 65536 }
@@ -725,20 +738,20 @@ fn run(table: &[u8], file: &mut [u8], out: &mut [u8], back: &mut [u8])
     let mut at: usize = 0;
     while at < table.len() {
         let to = scan::part_end(table, at, false);
-        test(&table[at..to], file, out, back);
+        test(rt, &table[at..to], file, out, back);
         at = to + 1;
     }
 }
 
-fn main() {
-    let mut table = io::large_buffer();
-    let mut file = io::large_buffer();
-    let mut out = io::large_buffer();
-    let mut back = io::large_buffer();
-    let got = streams::read_all(b"vectors", &mut table);
-    if got.failed {
+fn main(rt: HostRuntime) {
+    let mut table = [0u8; 65536];
+    let mut file = [0u8; 65536];
+    let mut out = [0u8; 65536];
+    let mut back = [0u8; 65536];
+    let got = streams::read_all(rt, b"vectors", &mut table);
+    if got.error != 0 {
         return;
     }
     let n = got.count;
-    run(&table[..n], &mut file, &mut out, &mut back);
+    run(rt, &table[..n], &mut file, &mut out, &mut back);
 }
