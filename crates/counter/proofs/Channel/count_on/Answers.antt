@@ -44,5 +44,5 @@ pub returns : goal.returns
 returns c = let a = c.args in
     let z = back a.s.d c.struct_told-1.given.0.1 in
     let o = c.carry_of in
-    rw (back o.result o.type-inv, o.ensures, c.td.ensures, c.flags.ensures.is, c.moved-n.ensures, z)
+    rw (back o.result o.type_inv, o.ensures, c.td.ensures, c.flags.ensures.is, c.moved-n.ensures, z)
     (moves a.s a.self (λ e. c.if-d-eq0.false (ap (of_z w32) e)))

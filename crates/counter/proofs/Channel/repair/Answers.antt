@@ -8,4 +8,5 @@ use Rattle.counter.proofs.Channel.repair.Goals as goal
 pub returns : goal.returns
 unfolding repaired reset_channel
 returns c = let carry = back c.args.self.carry (search rules) in
-    rw (c.below-4.ensures, c.in_reasons-r.ensures, c.in_carry.ensures, carry, c.below-3.ensures, c.below-2.ensures, c.below.ensures, c.in_range.ensures)
+    let made = back c.in_carry.result c.in_carry.type_inv in
+    rw (c.below-4.ensures, c.in_reasons-r.ensures, made, c.in_carry.ensures, carry, c.below-3.ensures, c.below-2.ensures, c.below.ensures, c.in_range.ensures)

@@ -1,6 +1,6 @@
 -- `counter::Channel::settle` meets its contract.
 -- Assumes nothing.
-use Rattle.std.proofs.Common.{◌≡◌, ℕ, Bool, ◌&&◌, ap, ◌∙◌, ⊎_elim, rules, eq-eqb, ne_eqb}
+use Rattle.std.proofs.Common.{◌≡◌, ℕ, Bool, ◌&&◌, ap, ◌∙◌, rules, eq-eqb, ne_eqb}
 use Rattle.counter.specs.Setters.{with_step}
 use Rattle.counter.specs.Queue.{captured}
 use Rattle.counter.specs.Advance.{recorded, is_match, output, settled}
@@ -10,6 +10,7 @@ use Rattle.counter.specs.declared.Next.{Next}
 use Rattle.counter.proofs.Settings.{recorded-same}
 use Rattle.counter.proofs.Signed.{back}
 use Rattle.counter.proofs.Channel.settle.Goals as goal
+use Rattle.counter.proofs.Channel.settle.Goals.{then-n-ne0+then-told, then-n-ne0+else-told, else-n-ne0}
 
 module _ (timestamp : ℕ) (n : Next) (c : Channel) where
   -- with a reason there is a capture
@@ -29,7 +30,14 @@ returns c =
     let captured-is = captures a.timestamp a.n a.self in
     rw (c.output.ensures, back a.n.carry (search rules))
     (settles a.timestamp a.n a.self a.now joined.self joined.pulse
-    (⊎_elim (λ w. let t = w.1.ensures ∙ captured-is w.0.true in (w.5 ∙ ap (λ (x : Capture). x.channel) t, w.6 ∙ rw (w.4.ensures, ← t, w.3.true)))
-    (⊎_elim (λ w. let t = w.1.ensures ∙ captured-is w.0.true in (w.4 ∙ ap (λ (x : Capture). x.channel) t, w.5 ∙ rw (← t, w.3.false)))
-    (λ w. let z = eq-eqb a.n.caught 0 w.0.false in (w.1 ∙ rw z, w.2 ∙ rw z)))
-    joined.branch))
+    (elim joined.branch [
+      | then-n-ne0+then-told w ↦
+          let t = w.capture-told.ensures ∙ captured-is w.if-n-ne0.true in
+          (w.self-is ∙ ap (λ (x : Capture). x.channel) t, w.pulse-is ∙ rw (w.is_match-pulse.ensures, ← t, w.if-told.true))
+      | then-n-ne0+else-told w ↦
+          let t = w.capture-told.ensures ∙ captured-is w.if-n-ne0.true in
+          (w.self-is ∙ ap (λ (x : Capture). x.channel) t, w.pulse-is ∙ rw (← t, w.if-told.false))
+      | else-n-ne0 w ↦
+          let z = eq-eqb a.n.caught 0 w.if-n-ne0.false in
+          (w.self-is ∙ rw z, w.pulse-is ∙ rw z)
+    ]))

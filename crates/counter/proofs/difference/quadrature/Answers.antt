@@ -22,12 +22,12 @@ module _ (k before now : ℕ) where
 pub returns-then-d-eq-ERROR : goal.returns-then-d-eq-ERROR
 returns-then-d-eq-ERROR c = let t = c.transition-d in
     let a = c.args in
-    erred a.k a.before a.now (told a.before a.now (sym t.ensures ∙ sym (back t.result t.type-inv) ∙ ap (to_z w32) c.if-d-eq-ERROR.true))
+    erred a.k a.before a.now (told a.before a.now (sym t.ensures ∙ sym (back t.result t.type_inv) ∙ ap (to_z w32) c.if-d-eq-ERROR.true))
 
 pub returns : goal.returns
 returns c = let g = c.gate in
     let t = c.transition-d in
     let a = c.args in
     let calm = untold a.before a.now (λ h. c.if-d-eq-ERROR.false (ap (of_z w32) (t.ensures ∙ h))) in
-    rw (c.plain.ensures, back g.result g.type-inv)
-    (cycled a.k a.before a.now calm (rw (back t.result t.type-inv, t.ensures, c.keeps.ensures) at g.ensures))
+    rw (c.plain.ensures, back g.result g.type_inv)
+    (cycled a.k a.before a.now calm (rw (back t.result t.type_inv, t.ensures, c.keeps.ensures) at g.ensures))

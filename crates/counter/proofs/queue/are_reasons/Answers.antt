@@ -1,6 +1,6 @@
 -- `counter::queue::are_reasons` meets its contract.
 -- Assumes nothing.
-use Rattle.std.proofs.Common.{◌≡◌, ◌-◌, ◌&&◌, length, sym, refl, ap, ◌∙◌, arith, eq-eqb}
+use Rattle.std.proofs.Common.{◌≡◌, ◌&&◌, length, sym, refl, ap, ◌∙◌, arith, eq-eqb}
 use Rattle.words.specs.Bits.{every}
 use Rattle.words.proofs.Every.{every-on}
 use Rattle.words.specs.Range.{all_good}

@@ -1,6 +1,6 @@
 -- `counter::queue::in_reasons` meets its contract.
 -- Assumes nothing.
-use Rattle.std.proofs.Common.{◌≡◌, ◌-◌, refl, ◌∙◌, arith}
+use Rattle.std.proofs.Common.{◌≡◌, refl, ◌∙◌, arith}
 use Rattle.words.proofs.Tables.{filled_on, filled-all}
 use Rattle.words.specs.Table.{tab}
 use Rattle.words.specs.Range.{all_or_reset}

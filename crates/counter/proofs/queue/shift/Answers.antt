@@ -1,6 +1,6 @@
 -- `counter::queue::shift` meets its contract.
 -- Assumes nothing.
-use Rattle.std.proofs.Common.{ℕ, suc, ◌-◌, get_or, replicate, refl, ap, add-one, arith}
+use Rattle.std.proofs.Common.{ℕ, suc, get_or, replicate, refl, ap, add-one, arith}
 use Rattle.words.proofs.Tables.{filled_on}
 use Rattle.words.specs.Table.{tab}
 use Rattle.counter.proofs.queue.shift.Goals as goal
