@@ -23,8 +23,4 @@ two d o o' at v h e e' =
     rw (e', e, low) (put-put d at (little 4 v) (little 4 (v / 4294967296)) (at + 4) (omega arith) (omega arith)) ∙ ap (put d at) (sym (little-split 4 4 v))
 
 pub returns : goal.returns
-returns c =
-    let c₂ = c.before.before in
-    let c₁ = c₂.before.before.before.before in
-    let a = c₁.args in
-    two a.out-1.now _ _ a.at a.v c₁.requires c₁.put_word.ensures c₂.put_word-2.ensures
+returns c = two c.args.out.now _ _ c.args.at c.args.v c.requires c.put_word.ensures c.put_word-2.ensures
