@@ -30,4 +30,4 @@ returns-else-rests-eq1-3 c = rw (c.before.in-2.is, ne_eqb _ _ c.if-rests-eq1-3.f
 
 pub returns-in_default : goal.returns-in_default
 unfolding expired_after
-returns-in_default c = let r = c.in_default.rest in rw (le-ltb c.args.expired 3 (omega (arith, r.1, r.0.1, r.0.0.1)))
+returns-in_default c = rw (le-ltb c.args.expired 3 (omega arith))

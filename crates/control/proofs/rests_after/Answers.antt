@@ -17,7 +17,6 @@ pub returns-in_default : goal.returns-in_default
 unfolding rests_after tab
 returns-in_default c =
     let m = c.before.before in
-    let r = m.in_default.rest in
     let expired = m.args.expired in
-    let begun : 1 < expired = omega (arith, r.1, r.0.1) in
+    let begun : 1 < expired = omega arith in
     rw (c.less_one-in_default-2.ensures, c.less_one-in_default.ensures, m.less_one-first.ensures, lt-ltb 0 expired (omega arith), lt-ltb 1 expired begun)

@@ -1,6 +1,6 @@
 -- `control::ticks` meets its contract.
 -- Assumes nothing.
-use Rattle.std.proofs.Common.{◌≡◌, ℕ, ◌-◌, ◌<◌, ◌≤◌, true, false, cond, ltb}
+use Rattle.std.proofs.Common.{◌≡◌, ℕ, ◌<◌, ◌≤◌, true, false, cond, ltb}
 use Rattle.words.specs.Bits.{word}
 use Rattle.control.specs.Clock.{tick}
 use Rattle.control.proofs.ticks.Given as goal

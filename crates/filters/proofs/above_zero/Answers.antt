@@ -1,7 +1,6 @@
 -- `filters::above_zero` meets its contract. The invariant: the word tells of the number in the first j planes.
 -- Assumes nothing.
 use mathlib.Core.Path.{◌≡◌, refl}
-use Prim.Native.Nat.{◌-◌}
 use native.Mathlib.Omega.{arith}
 use lib.ListN.{get_or}
 use Rattle.words.specs.Bits.{bit, word}

@@ -1,7 +1,6 @@
 -- `filters::below` meets its contract. The invariant: the word compares the numbers in the first j planes.
 -- Assumes nothing.
 use mathlib.Core.Path.{◌≡◌, refl}
-use Prim.Native.Nat.{◌-◌}
 use native.Mathlib.Omega.{arith}
 use lib.ListN.{get_or}
 use Rattle.words.specs.Bits.{bit, word}

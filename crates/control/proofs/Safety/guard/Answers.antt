@@ -1,19 +1,23 @@
 -- `control::Safety::guard` meets its contract.
 -- Assumes nothing.
-use Rattle.std.proofs.Common.{◌≡◌, Bool, false, ◌&&◌, ◌||◌, ◌∙◌, ⊎_elim}
+use Rattle.std.proofs.Common.{◌≡◌, Bool, false, ◌&&◌, ◌||◌, ◌∙◌}
 use mathlib.Core.Bool.{or-false}
 use Rattle.control.specs.Safety.{pin_triggers, watchdog_triggers, with_safemode, guarded}
 use Rattle.control.specs.declared.Safety.{Safety}
+use Rattle.control.proofs.Safety.guard.Goals.{Joined-watchdog_triggers, then-watchdog_triggers, else-watchdog_triggers}
 use Rattle.control.proofs.Safety.guard.Goals as goal
 
 -- what the test of the watchdog leaves
 abbrev watched : Bool → Safety → Safety
 watched expired s = with_safemode (s.safemode || (watchdog_triggers s.control && expired)) s
 
-found : (c : goal.Joined-watchdog_triggers) → c.if-watchdog_triggers.self ≡ watched c.args.expired c.args.self
+found : (c : Joined-watchdog_triggers) → c.if-watchdog_triggers.self ≡ watched c.args.expired c.args.self
 found c =
     let triggers = c.watchdog_triggers.ensures in
-    ⊎_elim (λ w. w.2 ∙ rw (← triggers, w.0.true)) (λ w. w.1 ∙ rw (← triggers, w.0.false, or-false)) c.if-watchdog_triggers.branch
+    elim c.if-watchdog_triggers.branch [
+      | then-watchdog_triggers w ↦ w.self-is ∙ rw (← triggers, w.if-watchdog_triggers.true)
+      | else-watchdog_triggers w ↦ w.self-is ∙ rw (← triggers, w.if-watchdog_triggers.false, or-false)
+    ]
 
 pub returns-then-pin_triggers : goal.returns-then-pin_triggers
 unfolding guarded

@@ -1,0 +1,10 @@
+-- `ports::guarded` meets its contract.
+-- Assumes nothing.
+use Rattle.words.proofs.BitLaws.{word-ext, bit_word}
+use Rattle.ports.proofs.guarded.Goals as goal
+
+pub returns : goal.returns
+returns c =
+    let c₁ = c.before in
+    let c₂ = c₁.before in
+    rw (c.select.ensures, c₁.both.ensures, c₂.all.ensures) (word-ext 48 _ _ (λ i h. simp bit_word))
