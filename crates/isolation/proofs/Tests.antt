@@ -84,13 +84,13 @@ module _ {S E T : Type 0} (machine : S → E → Reply S) (tell : T → E → An
   unfolding after_each
   after-each d t s [] h = tt
   after-each d t s (e ∷ es) h =
-      let p = (and-eq-true_iff (test (tell t e (machine s e).answer)) _).0 h in (d _ p.0, after-each d _ (machine s e).state es p.1)
+      let p = (and-eq-true_iff (test (tell t e (machine s e).answer)) _).0 h in (d _ p.0, after-each d (tell t e (machine s e).answer) (machine s e).state es p.1)
 
   each_after : ((t : T) → P t → test t ≡ true) → (t : T) (s : S) (es : List E) → AfterEach machine tell P t s es → after_each machine tell test t s es ≡ true
   unfolding after_each
   each_after d t s [] h = refl
   each_after d t s (e ∷ es) h =
-      (and-eq-true_iff (test (tell t e (machine s e).answer)) _).1 (d _ h.0, each_after d _ (machine s e).state es h.1)
+      (and-eq-true_iff (test (tell t e (machine s e).answer)) _).1 (d _ h.0, each_after d (tell t e (machine s e).answer) (machine s e).state es h.1)
 
 pub decided : Decided
 decided machine M es = (

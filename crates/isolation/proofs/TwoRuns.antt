@@ -30,7 +30,7 @@ module _ {S E T : Type 0} (machine : S → E → Reply S) (struck : E → Answer
     pub alone : (t : T) (s h : S) (es : List E) → Told t s → AfterEach machine tell Closed t s es → Seen s h → Alone s h es
     unfolding replies kept_answers remainder finish
     alone t s h [] m closed v = record { answered = refl; ended = v }
-    alone t s h (e ∷ es) m closed v = go (struck e (machine s e).answer) refl (λ g. alone _ z g es (tells t s e m) closed.1)
+    alone t s h (e ∷ es) m closed v = go (struck e (machine s e).answer) refl (λ g. alone (tell t e (machine s e).answer) z g es (tells t s e m) closed.1)
       where
         z : S
         z = (machine s e).state

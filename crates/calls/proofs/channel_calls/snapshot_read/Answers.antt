@@ -1,0 +1,23 @@
+-- `calls::channel_calls::snapshot_read` meets its contract.
+-- Assumes nothing.
+use borrow.Author.Tests.{eq-eqb, ne_eqb, lt-ltb, le-ltb}
+use Rattle.calls.specs.ChannelCalls.{snapshot_read}
+use Rattle.calls.proofs.channel_calls.snapshot_read.Goals as goal
+
+pub returns-then-lost-gt0 : goal.returns-then-lost-gt0
+unfolding snapshot_read
+returns-then-lost-gt0 c = rw (c.number.ensures, lt-ltb _ _ c.if-lost-gt0.true)
+
+pub returns-then-c-eq0 : goal.returns-then-c-eq0
+unfolding snapshot_read
+returns-then-c-eq0 c = rw (c.refuse.ensures, le-ltb _ _ c.if-lost-gt0.false, eq-eqb _ _ c.if-c-eq0.true)
+
+pub returns : goal.returns
+unfolding snapshot_read
+returns c =
+    let c₁ = c.before in
+    let c₂ = c₁.before in
+    let c₃ = c₂.before in
+    let c₄ = c₃.before in
+    let c₅ = c₄.before in
+    rw (c.pop.ensures, le-ltb _ _ c₅.if-lost-gt0.false, ne_eqb _ _ c₄.if-c-eq0.false)
