@@ -1,3 +1,2 @@
 // What the requests say of the machine that they amend: no code, only the theorems.
 #![tactic(auto)]
-
