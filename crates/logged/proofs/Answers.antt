@@ -16,7 +16,7 @@ use Rattle.board.specs.declared.Board.{Board}
 use Rattle.records.specs.Records.{event_at}
 use Rattle.runs.specs.After.{board_after, answer_to}
 use Rattle.runs.specs.Answers.{answer_bytes, answers_after}
-use Rattle.log.specs.Lines.{line_of, printed_for, printed}
+use Rattle.loglines.specs.Lines.{line_of, printed_for, printed}
 use Rattle.logged.specs.Claim.{RehearsedAll}
 use Rattle.logged.specs.Whole.{lines_of, answers_of, bytes_of}
 

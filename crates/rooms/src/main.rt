@@ -242,7 +242,7 @@ fn with_block(c: Came, h: &[u8], more: bool) -> Came
     let board = c.board;
     let block = block_of(h, k);
     let steps = accepted(board, h);
-    let p = log::print_place(board, k, &block, more, &mut out);
+    let p = loglines::print_place(board, k, &block, more, &mut out);
     let w = p.written;
     let next = p.board;
     let lines = feeds(&out[..w]);

@@ -206,7 +206,7 @@ fn send(c: Course, e: Event, log: &[u8], line: &mut [u8]) -> Course
     ensures came { result.log.came ≤ 126 }
 {
     let o = board::apply(c.board, e);
-    let n = log::put_line(line, 0, c.events, e.kind, o.answer);
+    let n = loglines::put_line(line, 0, c.events, e.kind, o.answer);
     let l = compared(c.log, &line[..n], log);
     let next = o.board;
     Course {

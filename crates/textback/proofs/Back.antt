@@ -14,7 +14,7 @@ use Rattle.buffers.proofs.Put.{take_put}
 use Rattle.history.specs.Claim.{WholeRecords}
 use Rattle.scan.specs.Parts.{parts, before, over}
 use Rattle.textin.specs.declared.Parsed.{Parsed}
-use Rattle.textin.specs.Readings.{take_word, finished, whole, line_of}
+use Rattle.textin.specs.Readings.{take_word, finished, line_of}
 use Rattle.textin.specs.Texts.{lines_of, wanted_of, add_line, no_text, checked, add_records, records_in, answered, output as records_out}
 use Rattle.textout.specs.Prints.{no_run, text_of, printed_text, printed, output as text_out}
 use Rattle.textout.proofs.Runs.{printed-all}

@@ -165,7 +165,7 @@ fn log_place(s: State, bytes: &[u8], more: bool, out: &mut [u8]) -> State
 {
     let at = s.at;
     let board = s.board;
-    let p = log::print_place(board, s.place, bytes, more, &mut out[at..]);
+    let p = loglines::print_place(board, s.place, bytes, more, &mut out[at..]);
     let to = at + p.written;
     let next = p.board;
     State {

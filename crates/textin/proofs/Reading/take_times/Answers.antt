@@ -1,14 +1,8 @@
 -- `textin::Reading::take_times` meets its contract.
 -- Assumes nothing.
-use Rattle.std.proofs.Common.{◌≡◌, ℕ, ◌^◌, ◌<◌, true, not, ◌&&◌, eqb, ltb, ltb-true}
-use mathlib.Core.Bool.{and-eq-true_iff}
 use Rattle.textin.specs.Readings.{take_times}
 use Rattle.textin.proofs.Reading.take_times.Goals.{then-n+else-n-2, else-n}
 use Rattle.textin.proofs.Reading.take_times.Goals as goal
-
--- the test of a number of times
-small : (n : ℕ) → (not (eqb n 0) && ltb n (2 ^ 32)) ≡ true → n < 2 ^ 32
-small n h = ltb-true n (2 ^ 32) ((and-eq-true_iff (not (eqb n 0)) (ltb n (2 ^ 32))).0 h).1
 
 pub returns-then-n-2 : goal.returns-then-n-2
 unfolding take_times
