@@ -1,4 +1,4 @@
-// Whole histories for programs in C or Rust: the archive that `rt staticlib planner` writes. A
+// Whole histories for programs in C or Rust: the archive that `tools/build planner` writes. A
 // planner hands in a board and a list of records, and takes an answer for each of them; what the
 // list needs as a history it can ask beforehand.
 #![tactic(auto)]

@@ -1,4 +1,4 @@
-// The board for programs in C or Rust, event by event: the archive that `rt staticlib service`
+// The board for programs in C or Rust, event by event: the archive that `tools/build service`
 // writes. A service keeps the board and hands it in with each event.
 #![tactic(auto)]
 
