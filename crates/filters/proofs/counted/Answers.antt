@@ -22,21 +22,19 @@ pub loop-j-preserved : goal.loop-j-preserved
 unfolding carried
 loop-j-preserved c =
     let l = c.loop-j in
-    let start = c.before.before.before.before.before.before in
-    let a = start.args in
+    let a = c.args in
     let here : l.j < 16 = omega arith in
     let made : c.both.result ≡ plane_of (numbers a.on a.x) l.j =
     rw (c.both.ensures, c.differ.ensures, l.invariant.1)
     (word-ext 48 _ _ (λ p h. simp (bit_word, ← bit-number) (counted-bit (bit a.on p) (number_at a.x p) l.j))) in (
       omega arith,
       rw (c.both-carry.ensures, l.invariant.1, add-one l.j) (word-ext 48 _ _ (λ p h. simp (bit_word, bit-number))),
-      filled_on l.j (plane_of (numbers a.on a.x)) a.x l.r _ (omega (arith, start.well_formed.0.1)) l.invariant.2 made,
+      filled_on l.j (plane_of (numbers a.on a.x)) a.x l.r _ (omega (arith, c.well_formed.0.1)) l.invariant.2 made,
     )
 
 pub returns : goal.returns
 unfolding planes
 returns c =
-    let start = c.before.before.before in
-    let a = start.args in
+    let a = c.args in
     let e : c.loop-j.j ≡ 16 = omega arith in
-    c.loop-j.invariant.2 ∙ rw e (filled-all 16 (plane_of (numbers a.on a.x)) a.x (omega (arith, start.well_formed.0.1)))
+    c.loop-j.invariant.2 ∙ rw e (filled-all 16 (plane_of (numbers a.on a.x)) a.x (omega (arith, c.well_formed.0.1)))

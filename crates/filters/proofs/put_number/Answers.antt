@@ -21,18 +21,16 @@ loop-j-init c = (omega arith, refl)
 pub loop-j-preserved : goal.loop-j-preserved
 loop-j-preserved c =
     let l = c.loop-j in
-    let start = c.before.before.before.before in
-    let a = start.args in
+    let a = c.args in
     let here : l.j < 16 = omega arith in
     let made : c.put.result ≡ plane_of (numbers a.p a.n a.x) l.j =
     rw (c.put.ensures, c.bit.ensures)
     (word-ext 48 _ _ (λ q h. ap (cond (eqb q a.p) (bit a.n l.j)) (sym (bit-number a.x q l.j here)) ∙ bit-chosen (eqb q a.p) a.n (number_at a.x q) l.j)) in
-    (omega arith, filled_on l.j (plane_of (numbers a.p a.n a.x)) a.x l.r _ (omega (arith, start.well_formed.0.1)) l.invariant.1 made)
+    (omega arith, filled_on l.j (plane_of (numbers a.p a.n a.x)) a.x l.r _ (omega (arith, c.well_formed.0.1)) l.invariant.1 made)
 
 pub returns : goal.returns
 unfolding planes
 returns c =
-    let start = c.before.before in
-    let a = start.args in
+    let a = c.args in
     let e : c.loop-j.j ≡ 16 = omega arith in
-    c.loop-j.invariant.1 ∙ rw e (filled-all 16 (plane_of (numbers a.p a.n a.x)) a.x (omega (arith, start.well_formed.0.1)))
+    c.loop-j.invariant.1 ∙ rw e (filled-all 16 (plane_of (numbers a.p a.n a.x)) a.x (omega (arith, c.well_formed.0.1)))

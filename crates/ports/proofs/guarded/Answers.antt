@@ -5,6 +5,4 @@ use Rattle.ports.proofs.guarded.Goals as goal
 
 pub returns : goal.returns
 returns c =
-    let c₁ = c.before in
-    let c₂ = c₁.before in
-    rw (c.select.ensures, c₁.both.ensures, c₂.all.ensures) (word-ext 48 _ _ (λ i h. simp bit_word))
+    rw (c.select.ensures, c.both.ensures, c.all.ensures) (word-ext 48 _ _ (λ i h. simp bit_word))

@@ -9,8 +9,5 @@ use Rattle.ports.proofs.mended.Goals as goal
 
 pub returns : goal.returns
 returns c =
-    let c₁ = c.before in
-    let c₂ = c₁.before in
-    let c₃ = c₂.before in
-    rw (c.without.ensures, c₁.both-2.ensures, c₂.both.ensures)
-    (let a = c₃.args in word-ext 48 _ _ (λ i h. simp bit_word (ap (λ t. bit a.s i && t) (not-seven (bit a.s0 i) (bit a.s1 i) (bit a.s2 i)))))
+    rw (c.without.ensures, c.both-2.ensures, c.both.ensures)
+    (let a = c.args in word-ext 48 _ _ (λ i h. simp bit_word (ap (λ t. bit a.s i && t) (not-seven (bit a.s0 i) (bit a.s1 i) (bit a.s2 i)))))

@@ -15,14 +15,12 @@ loop-j-init c = (omega arith, refl)
 pub loop-j-preserved : goal.loop-j-preserved
 loop-j-preserved c =
     let l = c.loop-j in
-    let start = c.before.before.before in
-    let x = start.args.x in
-    (omega arith, filled_on l.j (ranged x) x l.r _ (omega (arith, start.well_formed.0.1)) l.invariant.1 c.pin_word.ensures)
+    let x = c.args.x in
+    (omega arith, filled_on l.j (ranged x) x l.r _ (omega (arith, c.well_formed.0.1)) l.invariant.1 c.pin_word.ensures)
 
 pub returns : goal.returns
 unfolding all_or_reset
 returns c =
-    let start = c.before.before in
-    let x = start.args.x in
+    let x = c.args.x in
     let e : c.loop-j.j ≡ 16 = omega arith in
-    c.loop-j.invariant.1 ∙ rw e (filled-all 16 (ranged x) x (omega (arith, start.well_formed.0.1)))
+    c.loop-j.invariant.1 ∙ rw e (filled-all 16 (ranged x) x (omega (arith, c.well_formed.0.1)))

@@ -17,18 +17,14 @@ returns-then-d-base c =
 
 pub returns-then-n-d : goal.returns-then-n-d
 returns-then-n-d c =
-    let called = c.before.before.before.before.before in
-    let a = called.args in
-    let w = called.worth-d.ensures in
-    let over = (div-lt_iff_lt-mul {k = a.base} called.requires).0 c.if-n-d.true in
-    let tests = c.before.before in
-    sym (extended-over _ _ a.b (not-false _ tests.if-not-n.false) (rw (← w) tests.if-d-base.false) (rw (← w) (omega arith)))
+    let a = c.args in
+    let w = c.worth-d.ensures in
+    let over = (div-lt_iff_lt-mul {k = a.base} c.requires).0 c.if-n-d.true in
+    sym (extended-over _ _ a.b (not-false _ c.if-not-n.false) (rw (← w) c.if-d-base.false) (rw (← w) (omega arith)))
 
 pub returns : goal.returns
 returns c =
-    let called = c.before.before.before.before.before.before in
-    let a = called.args in
-    let w = called.worth-d.ensures in
-    let room = (le-div_iff_mul-le {k = a.base} called.requires).0 c.if-n-d.false in
-    let tests = c.before.before.before in
-    rw w (sym (extended-more _ _ a.b (not-false _ tests.if-not-n.false) (rw (← w) tests.if-d-base.false) (rw (← w) (omega arith))))
+    let a = c.args in
+    let w = c.worth-d.ensures in
+    let room = (le-div_iff_mul-le {k = a.base} c.requires).0 c.if-n-d.false in
+    rw w (sym (extended-more _ _ a.b (not-false _ c.if-not-n.false) (rw (← w) c.if-d-base.false) (rw (← w) (omega arith))))

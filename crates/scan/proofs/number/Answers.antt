@@ -13,10 +13,9 @@ returns-then-text-lt2 c = c.figure.ensures ∙ sym (number_short _ c.if-text-lt2
 
 pub returns-then-hexadecimal : goal.returns-then-hexadecimal
 returns-then-hexadecimal c =
-    let tested = c.before.before in
-    let text = tested.args.text.now in
+    let text = c.args.text.now in
     let e : take (length text - 2) (drop 2 text) ≡ drop 2 text = take_all (length text - 2) (drop 2 text) (simp length-drop (omega arith)) in
-    c.figure-then-hexadecimal.ensures ∙ rw e (sym (number-hexadecimal text (sym tested.same-hexadecimal.ensures ∙ tested.if-hexadecimal.true)))
+    c.figure-then-hexadecimal.ensures ∙ rw e (sym (number-hexadecimal text (sym c.same-hexadecimal.ensures ∙ c.if-hexadecimal.true)))
 
 pub returns : goal.returns
 returns c = c.figure-2.ensures ∙ sym (number-decimal _ (sym c.same-hexadecimal.ensures ∙ c.if-hexadecimal.false))

@@ -15,9 +15,4 @@ returns-then-c-eq0 c = rw (c.refuse.ensures, le-ltb _ _ c.if-lost-gt0.false, eq-
 pub returns : goal.returns
 unfolding snapshot_read
 returns c =
-    let c₁ = c.before in
-    let c₂ = c₁.before in
-    let c₃ = c₂.before in
-    let c₄ = c₃.before in
-    let c₅ = c₄.before in
-    rw (c.pop.ensures, le-ltb _ _ c₅.if-lost-gt0.false, ne_eqb _ _ c₄.if-c-eq0.false)
+    rw (c.pop.ensures, le-ltb _ _ c.if-lost-gt0.false, ne_eqb _ _ c.if-c-eq0.false)

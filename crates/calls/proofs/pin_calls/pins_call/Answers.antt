@@ -9,13 +9,11 @@ use Rattle.calls.proofs.pin_calls.pins_call.Goals as goal
 pub returns-then-e-eq30 : goal.returns-then-e-eq30
 unfolding whole_call
 returns-then-e-eq30 c =
-    let start = c.before.before.before.before in
-    let a = start.args in
-    rw (c.filter_write.ensures, eq-eqb a.e.kind 30 c.if-e-eq30.true, put-own-pin a.pins start.requires.pins_value a.e.member a.e.v 0)
+    let a = c.args in
+    rw (c.filter_write.ensures, eq-eqb a.e.kind 30 c.if-e-eq30.true, put-own-pin a.pins c.requires.pins_value a.e.member a.e.v 0)
 
 pub returns : goal.returns
 unfolding whole_call whole_at
 returns c =
-    let start = c.before.before.before.before.before.before.before.before in
-    let a = start.args in
-    rw (c.put.ensures, c.pin_call-r.ensures, c.at.ensures, ne_eqb a.e.kind 30 c.if-e-eq30.false, put-own-filter a.pins start.requires.pins_value a.e.member)
+    let a = c.args in
+    rw (c.put.ensures, c.pin_call-r.ensures, c.at.ensures, ne_eqb a.e.kind 30 c.if-e-eq30.false, put-own-filter a.pins c.requires.pins_value a.e.member)

@@ -6,6 +6,4 @@ use Rattle.control.proofs.Core.repair.Goals as goal
 pub returns : goal.returns
 unfolding repaired_core
 returns c =
-    let c₁ = c.before in
-    let c₂ = c₁.before in
-    rw (c.repair-3.ensures, c₁.repair-2.ensures, c₂.repair.ensures)
+    rw (c.repair-3.ensures, c.repair-2.ensures, c.repair.ensures)

@@ -8,5 +8,4 @@ use Rattle.control.proofs.Watchdog.repair.Goals as goal
 pub returns : goal.returns
 unfolding repaired_watchdog all_or_reset tab
 returns c =
-    let third = c.before.before in
-    rw (c.below.ensures, third.sound_interval-3.ensures, third.sound_interval-2.ensures, third.sound_interval.ensures)
+    rw (c.below.ensures, c.sound_interval-3.ensures, c.sound_interval-2.ensures, c.sound_interval.ensures)

@@ -7,8 +7,7 @@ use Rattle.counter.proofs.Channel.capture.Goals as goal
 pub returns-then-stored : goal.returns-then-stored
 unfolding captured
 returns-then-stored c =
-    let k = c.before.before in
-    simp (c.put-r.ensures, c.put-t.ensures, k.put-c.ensures, k.if-stored.true-raw)
+    simp (c.put-r.ensures, c.put-t.ensures, c.put-c.ensures, c.if-stored.true-raw)
 
 pub returns-then-self-lt-MOST_LOST : goal.returns-then-self-lt-MOST_LOST
 unfolding captured

@@ -7,6 +7,5 @@ use Rattle.counter.proofs.Channel.is_sound.Goals as goal
 pub returns : goal.returns
 unfolding channel_in_range
 returns c =
-    let c₇ = c.before.before.before.before.before.before.before in
-    let carry = back c₇.args.self.carry c.struct_told-1.given.1.1.1.1.1.1.1.1.1.1.1.0.1 in
-    rw (c.are_reasons.ensures, c.is_carry.ensures, carry, c₇.is_good.ensures)
+    let carry = back c.args.self.carry c.struct_told-1.given.1.1.1.1.1.1.1.1.1.1.1.0.1 in
+    rw (c.are_reasons.ensures, c.is_carry.ensures, carry, c.is_good.ensures)

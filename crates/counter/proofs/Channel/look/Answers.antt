@@ -12,27 +12,23 @@ reversed-d-requires c = let t = c.clock-turn in
 
 pub returns-then-self : goal.returns-then-self
 unfolding look
-returns-then-self c = let c₃ = c.before.before.before in
-    let c₅ = c₃.before.before in
-    let c₆ = c₅.before in
-    let c₈ = c₆.before.before in
-    let c₁₀ = c₈.before.before in
+returns-then-self c =
     rw (
       c.index.ensures,
       c.flag.ensures.is,
       c.edge_reasons.ensures,
-      back c₃.gate.result c₃.gate.type_inv,
-      c₃.gate.ensures,
-      c₃.counts.ensures,
-      back c₅.reversed-d.result c₅.reversed-d.type_inv,
-      c₅.reversed-d.ensures,
-      back c₈.clock-turn.result.d c₆.struct_told-1.given.0.1,
-      c₆.ud.ensures,
-      c₈.clock-turn.ensures,
-      to_z-of_z c₁₀.ranges.carried,
-      c₈.k.ensures,
-      c₁₀.armed_by_edge-armed.ensures,
-      c₁₀.if-self.true,
+      back c.gate.result c.gate.type_inv,
+      c.gate.ensures,
+      c.counts.ensures,
+      back c.reversed-d.result c.reversed-d.type_inv,
+      c.reversed-d.ensures,
+      back c.clock-turn.result.d c.struct_told-1.given.0.1,
+      c.ud.ensures,
+      c.clock-turn.ensures,
+      to_z-of_z c.ranges.carried,
+      c.k.ensures,
+      c.armed_by_edge-armed.ensures,
+      c.if-self.true,
     )
 
 pub returns : goal.returns

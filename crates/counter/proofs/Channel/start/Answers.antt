@@ -11,8 +11,7 @@ returns-then-self c = simp c.if-self.true
 pub returns-then-tp : goal.returns-then-tp
 unfolding started
 returns-then-tp c =
-    let k = c.before.before in
-    simp (c.preload.ensures, c.begin.ensures, sym k.tp.ensures ∙ k.if-tp.true, k.if-self.false)
+    simp (c.preload.ensures, c.begin.ensures, sym c.tp.ensures ∙ c.if-tp.true, c.if-self.false)
 
 pub returns-else-tp : goal.returns-else-tp
 unfolding started

@@ -17,30 +17,30 @@ last (suc (suc (suc (suc (suc k))))) n₀ n₁ n₂ n₃ n₄ = omega arith
 pub returns-in-0 : goal.returns-in-0
 unfolding clocked errs
 returns-in-0 c = let u = c.unit in
-    rw (c.plain.ensures, back u.result u.type_inv, u.ensures, c.line_a-in-0.ensures, c.line_a.ensures, c.before.before.before.before.in-0.is)
+    rw (c.plain.ensures, back u.result u.type_inv, u.ensures, c.line_a-in-0.ensures, c.line_a.ensures, c.in-0.is)
 
 pub returns-in-1 : goal.returns-in-1
 unfolding clocked errs
 returns-in-1 c = let u = c.unit-in-1 in
-    rw (c.plain-in-1.ensures, back u.result u.type_inv, u.ensures, c.line_a-in-1-2.ensures, c.line_a-in-1.ensures, c.before.before.before.before.in-1.is)
+    rw (c.plain-in-1.ensures, back u.result u.type_inv, u.ensures, c.line_a-in-1-2.ensures, c.line_a-in-1.ensures, c.in-1.is)
 
 pub returns-in-2 : goal.returns-in-2
 unfolding clocked errs
 returns-in-2 c = let u = c.unit-in-2 in
-    rw (c.plain-in-2.ensures, back u.result u.type_inv, u.ensures, c.before.before.in-2.is)
+    rw (c.plain-in-2.ensures, back u.result u.type_inv, u.ensures, c.in-2.is)
 
 pub returns-in-3 : goal.returns-in-3
 unfolding clocked errs
-returns-in-3 c = rw (c.plain-in-3.ensures, c.before.in-3.is)
+returns-in-3 c = rw (c.plain-in-3.ensures, c.in-3.is)
 
 pub returns-in-4 : goal.returns-in-4
 unfolding clocked errs
 returns-in-4 c = let s = c.sign in
-    rw (c.plain-in-4.ensures, back s.result s.type_inv, s.ensures, to_z-of_z c.ranges.carried, c.before.before.in-4.is)
+    rw (c.plain-in-4.ensures, back s.result s.type_inv, s.ensures, to_z-of_z c.ranges.carried, c.in-4.is)
 
 pub returns-in_default : goal.returns-in_default
 unfolding clocked errs
-returns-in_default c = let r₄ = c.before.in_default.in_default-own.rest in
+returns-in_default c = let r₄ = c.in_default.in_default-own.rest in
     let r₃ = r₄.0 in
     let r₂ = r₃.0 in
     let r₁ = r₂.0 in

@@ -8,10 +8,9 @@ use Rattle.counter.proofs.queue.put.Goals as goal
 pub returns : goal.returns
 unfolding tab
 returns c =
-    let start = c.before.before.before.before.before.before.before.before.before.before.before.before.before.before.before.before in
-    let args = start.args in
+    let args = c.args in
     let a = args.a in
-    let h : length a ≡ 16 = omega (arith, start.well_formed.0.1) in
+    let h : length a ≡ 16 = omega (arith, c.well_formed.0.1) in
     simp (
       c.pick-16.ensures,
       c.pick-15.ensures,

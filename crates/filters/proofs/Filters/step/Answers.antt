@@ -19,17 +19,14 @@ use Rattle.filters.proofs.Filters.step.Tie as tie
 
 -- ---- the pins with a filter that differ
 module _ (b : lts.After-both tie.the-claims reads.Pre reads.Post) where
-  abbrev start : lts.Start tie.the-claims reads.Pre reads.Post
-  start = b.before.before.before.before.before
-
-  differing-at : (p : ℕ) → p < 48 → bit b.both-differing.result p ≡ (not (beq (bit start.args.raw p) (bit start.args.level p)) && ltb 0 (number_at start.args.self.filter p))
+  differing-at : (p : ℕ) → p < 48 → bit b.both-differing.result p ≡ (not (beq (bit b.args.raw p) (bit b.args.level p)) && ltb 0 (number_at b.args.self.filter p))
   differing-at = both_at _ _ b.differ.ensures b.above_zero.ensures b.both-differing.ensures
 
   -- there is none
   quiet : b.both-differing.result ≡ 0
-      → ◌≡◌ {A = Filtered} (record { filters = record { filter = start.args.self.filter; wait = planes (λ p. 0) }; level = word 48 (bit start.args.raw) })
-      (filtered start.args.raw start.args.level start.args.self)
-  quiet z = filtered-quiet start.args.self start.args.raw start.args.level (λ p h. sym (differing-at p h) ∙ ap (λ v. bit v p) z ∙ bit-none p)
+      → ◌≡◌ {A = Filtered} (record { filters = record { filter = b.args.self.filter; wait = planes (λ p. 0) }; level = word 48 (bit b.args.raw) })
+      (filtered b.args.raw b.args.level b.args.self)
+  quiet z = filtered-quiet b.args.self b.args.raw b.args.level (λ p h. sym (differing-at p h) ∙ ap (λ v. bit v p) z ∙ bit-none p)
 
 pub returns-then-differing-ne0 : goal.returns-then-differing-ne0
 unfolding filtering_at
@@ -46,7 +43,7 @@ returns-then-differing-ne0 c =
 pub returns-then-are_zero : goal.returns-then-are_zero
 returns-then-are_zero c =
     let b = c.before.before.before.before in
-    let a = (start b).args in
+    let a = b.args in
     let none : a.self.wait ≡ planes (λ p. 0) = all-zero a.self.wait (search rules) (sym c.are_zero.ensures ∙ c.if-are_zero.true) in
     (λ i. record { filters = record { filter = a.self.filter; wait = none i }; level = c.cut.ensures i }) ∙ quiet b c.if-differing-ne0.false
 

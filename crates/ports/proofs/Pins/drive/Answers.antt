@@ -9,7 +9,5 @@ use Rattle.ports.proofs.Pins.drive.Goals as goal
 pub returns : goal.returns
 unfolding driven pin_at
 returns c =
-    let c₁ = c.before in
-    let c₂ = c₁.before in
-    rw (c.guarded.ensures, c₁.sources-base.ensures)
-    (ap (λ w. with_driven w c₂.args.self) (word-ext 48 _ _ (λ i h. simp bit_word)))
+    rw (c.guarded.ensures, c.sources-base.ensures)
+    (ap (λ w. with_driven w c.args.self) (word-ext 48 _ _ (λ i h. simp bit_word)))

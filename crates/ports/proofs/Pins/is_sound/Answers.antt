@@ -7,7 +7,5 @@ use Rattle.ports.proofs.Pins.is_sound.Goals as goal
 pub returns : goal.returns
 unfolding pins_in_range
 returns c =
-    let c₂ = c.before.before in
-    let c₃ = c₂.before in
-    let x = c₃.args.self in
-    rw (c.are_pin_words-2.ensures, c.are_pin_words.ensures, c₂.both-2.ensures, all-sources x c₃.both.result c₃.both.ensures)
+    let x = c.args.self in
+    rw (c.are_pin_words-2.ensures, c.are_pin_words.ensures, c.both-2.ensures, all-sources x c.both.result c.both.ensures)

@@ -6,6 +6,4 @@ use Rattle.ports.proofs.Virtuals.at.Goals as goal
 pub returns : goal.returns
 unfolding virtual_at
 returns c =
-    let c₁ = c.before in
-    let c₂ = c₁.before in
-    rw (c.bit-3.ensures, c₁.bit-2.ensures, c₂.bit.ensures)
+    rw (c.bit-3.ensures, c.bit-2.ensures, c.bit.ensures)

@@ -6,6 +6,4 @@ use Rattle.ports.proofs.Virtuals.put.Goals as goal
 pub returns : goal.returns
 unfolding put_virtual
 returns c =
-    let c₁ = c.before in
-    let c₂ = c₁.before in
-    rw (c.put_virtual_bit-3.ensures, c₁.put_virtual_bit-2.ensures, c₂.put_virtual_bit.ensures)
+    rw (c.put_virtual_bit-3.ensures, c.put_virtual_bit-2.ensures, c.put_virtual_bit.ensures)

@@ -7,6 +7,4 @@ use Rattle.ports.proofs.Virtuals.repair.Goals as goal
 pub returns : goal.returns
 unfolding repaired_virtuals reset_virtuals word
 returns c =
-    let c₁ = c.before in
-    let c₂ = c₁.before in
-    rw (c.output_word-3.ensures, c₁.output_word-2.ensures, c₂.output_word.ensures)
+    rw (c.output_word-3.ensures, c.output_word-2.ensures, c.output_word.ensures)
