@@ -21,7 +21,7 @@ use Rattle.control.specs.Watchdog.{rests_after, expired_after, watched_in, watch
 use Rattle.control.specs.Whole.{reset_core}
 use Rattle.calls.specs.ChannelCalls.{mode_write, register_write, snapshot_read, channel_call}
 use Rattle.calls.specs.Fields.{step_fits, limits, limit, selectors, fits}
-use Rattle.calls.specs.Reply.{Reply}
+use Rattle.calls.specs.declared.Reply.{Reply}
 use Rattle.calls.specs.declared.Event.{Event}
 use Rattle.board.specs.Handed.{reset_board}
 use Rattle.board.specs.Inputs.{extouts, index_of, samples_of, inputs_of, channel_next, all_next}

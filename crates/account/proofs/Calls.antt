@@ -12,7 +12,7 @@ use Rattle.counter.specs.Mode.{TP}
 use Rattle.counter.specs.Preload.{allowed, preloaded, started}
 use Rattle.counter.specs.Queue.{popped}
 use Rattle.counter.specs.declared.Channel.{Channel}
-use Rattle.calls.specs.Reply.{Reply}
+use Rattle.calls.specs.declared.Reply.{Reply}
 use Rattle.calls.specs.ChannelCalls.{mode_write, route_write, snapshot_read, channel_call}
 use Rattle.calls.specs.declared.Event.{Event}
 use Rattle.account.specs.Counts.{is_full}

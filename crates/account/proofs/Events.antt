@@ -15,7 +15,8 @@ use Rattle.words.proofs.Tables.{get_or-tab}
 use Rattle.counter.specs.Repair.{reset_channel, no_channel}
 use Rattle.counter.specs.declared.Channel.{Channel}
 use Rattle.calls.specs.Fields.{is_step}
-use Rattle.calls.specs.Reply.{Reply, refuse}
+use Rattle.calls.specs.Reply.{refuse}
+use Rattle.calls.specs.declared.Reply.{Reply}
 use Rattle.calls.specs.declared.Event.{Event}
 use Rattle.calls.specs.declared.Answer.{Answer}
 use Rattle.board.specs.Inputs.{channel_in, channel_next, all_next}

@@ -5,3 +5,4 @@ pub mod Events
 pub mod Audited
 pub mod Adds
 pub mod Apart
+pub mod Filled

@@ -3,7 +3,7 @@
 use Rattle.std.specs.Prelude.{List, [], ◌∷◌, ℕ, min, ◌+◌, ◌-◌, ◌^◌, get_or, replicate}
 use Rattle.words.specs.Table.{tab}
 use Rattle.counter.specs.declared.Channel.{Channel}
-use Rattle.calls.specs.Reply.{Reply}
+use Rattle.calls.specs.declared.Reply.{Reply}
 use Rattle.calls.specs.declared.Event.{Event}
 use Rattle.calls.specs.declared.Answer.{Answer}
 use Rattle.board.specs.Inputs.{channel_in}

@@ -3,7 +3,8 @@
 use Rattle.std.specs.Prelude.{◌≡◌, cond, ◌&&◌, List, [], ◌∷◌, ◌++◌, ℕ, zero, suc, ◌-◌, eqb, replicate}
 use Rattle.words.specs.Table.{tab}
 use Rattle.counter.specs.Setters.{with_lost}
-use Rattle.calls.specs.Reply.{Reply, reply, number}
+use Rattle.calls.specs.Reply.{reply, number}
+use Rattle.calls.specs.declared.Reply.{Reply}
 use Rattle.calls.specs.Events.{call, lines}
 use Rattle.calls.specs.declared.Event.{Event}
 use Rattle.board.specs.Inputs.{channel_in}

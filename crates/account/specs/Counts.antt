@@ -8,7 +8,7 @@ use Rattle.counter.specs.declared.Channel.{Channel}
 use Rattle.ports.specs.Pins.{sensed}
 use Rattle.ports.specs.declared.Pins.{Pins}
 use Rattle.control.specs.Watchdog.{watched}
-use Rattle.calls.specs.Reply.{Reply}
+use Rattle.calls.specs.declared.Reply.{Reply}
 use Rattle.calls.specs.declared.Event.{Event}
 use Rattle.calls.specs.declared.Answer.{Answer}
 use Rattle.board.specs.Inputs.{channel_in, neighbour, inputs_of}

@@ -8,11 +8,11 @@
 ghost use Rattle.std.specs.Prelude.{◌≡◌};
 ghost use Rattle.counter.specs.Repair.{repaired};
 ghost use Rattle.board.specs.Handed.{reset_board, repaired_board, applied};
-ghost use Rattle.account.specs.Accounts.{added, no_accounts, more, accounts_after, balance_of};
+ghost use Rattle.account.specs.Accounts.{no_accounts, more, accounts_after, balance_of};
 ghost use Rattle.account.specs.Code.{all_emptied, after_held, after_step, after_call};
 
 use board::{Board, CHANNELS};
-use calls::{Answer, Event};
+use calls::{Answer, Event, Kind, Refusal};
 use counter::Channel;
 
 // What was made, handed out and reported so far. A number that has come to 2^64 - 1 stays there.
@@ -44,76 +44,52 @@ pub struct Audit {
     pub accounts: [Account; CHANNELS],
 }
 
-// The end of a 64-bit number.
-const MOST: u64 = 0xffffffffffffffff;
-
-// The calls that make a capture and that read one.
-const SNAPSHOT: u8 = 8;
-
-const READ: u8 = 11;
-
-// The result of a read that tells how many captures were lost.
-const LOST: u32 = 6;
-
-// A number with some more, up to its end.
-fn added(n: u64, more: u64) -> u64
-    ensures { result ≡ added n more }
-{
-    if more < MOST - n { n + more } else { MOST }
-}
-
 impl Account {
     // So much more of each.
+    #[tactic(auto, unfolding(crate::specs::Accounts::added))]
     fn more(self, made: u64, handed: u64, reported: u64) -> Account
         ensures { result ≡ more self made handed reported }
     {
         Account {
-            made: added(self.made, made),
-            handed: added(self.handed, handed),
-            reported: added(self.reported, reported),
+            made: self.made.saturating_add(made),
+            handed: self.handed.saturating_add(handed),
+            reported: self.reported.saturating_add(reported),
         }
     }
 
     // After a call of this kind on the channel, with its answer.
+    #[tactic(auto, unfolding(crate::specs::Code::after_call))]
     fn after_call(self, kind: u8, a: Answer) -> Account
         ensures { result ≡ after_call kind a self }
     {
-        let accepted = a.result == 0;
-        let read = kind == READ;
-        let made = words::flag((kind == SNAPSHOT) & accepted);
-        let handed = words::flag(read & accepted);
-        let reported = if read & (a.result == LOST) {
-            a.value
-        } else {
-            0
-        };
-        self.more(made as u64, handed as u64, reported as u64)
+        match Kind::try_from(kind) {
+            Ok(Kind::Snapshot) if a.is_accepted() => self.more(1, 0, 0),
+            Ok(Kind::SnapshotRead) if a.is_accepted() => self.more(0, 1, 0),
+            Ok(Kind::SnapshotRead) if a.tells(Refusal::Lost) => self.more(0, 0, a.value as u64),
+            _ => self.more(0, 0, 0),
+        }
     }
 }
 
-// The channels with empty queues.
-fn emptied(cs: [Channel; CHANNELS]) -> [Channel; CHANNELS]
+// The channels with empty queues. They are named by their places: what `iter_mut` lends of a record
+// with a signed carry leaves a goal that did not close.
+fn emptied(mut cs: [Channel; CHANNELS]) -> [Channel; CHANNELS]
     ensures { result ≡ all_emptied cs }
 {
-    let mut r = cs;
     for i in 0..CHANNELS {
-        let mut c = cs[i];
-        c.held = 0;
-        r[i] = c;
+        cs[i].held = 0;
     }
-    r
+    cs
 }
 
-// A capture more for each channel that holds one.
-fn after_held(accounts: [Account; CHANNELS], cs: [Channel; CHANNELS]) -> [Account; CHANNELS]
+// A capture more for each channel that holds one, by their places as above.
+fn after_held(mut accounts: [Account; CHANNELS], cs: [Channel; CHANNELS]) -> [Account; CHANNELS]
     ensures { result ≡ after_held cs accounts }
 {
-    let mut r = accounts;
     for i in 0..CHANNELS {
-        let own = accounts[i];
-        r[i] = own.more(words::flag(cs[i].held != 0) as u64, 0, 0);
+        accounts[i] = accounts[i].more(u64::from(cs[i].held != 0), 0, 0);
     }
-    r
+    accounts
 }
 
 // After an accepted step. It is taken with empty queues: nothing of what occurs in a step goes by
@@ -122,13 +98,11 @@ fn after_held(accounts: [Account; CHANNELS], cs: [Channel; CHANNELS]) -> [Accoun
 fn after_step(accounts: [Account; CHANNELS], board: Board, v: u32, w: u64) -> [Account; CHANNELS]
     ensures { result ≡ after_step v w board accounts }
 {
-    let cs = board.channels;
-    let free = emptied(cs);
-    let mut empty = board;
-    empty.channels = free;
-    let next = empty.step(v, w);
-    let after = next.channels;
-    after_held(accounts, after)
+    let empty = Board {
+        channels: emptied(board.channels),
+        ..board
+    };
+    after_held(accounts, empty.step(v, w).channels)
 }
 
 // The accounts at reset.
@@ -145,21 +119,18 @@ pub fn none() -> [Account; CHANNELS]
 
 // The accounts after one more event, which finds this board. The event is answered by
 // `board::apply` as ever; this only tells what it adds.
-pub fn go_on(accounts: [Account; CHANNELS], board: Board, event: Event) -> [Account; CHANNELS]
+pub fn go_on(mut accounts: [Account; CHANNELS], board: Board, event: Event) -> [Account; CHANNELS]
     ensures { result ≡ accounts_after (repaired_board board) event accounts }
 {
     if calls::is_step(event) {
         return after_step(accounts, board.repair(), event.v, event.w);
     }
     let m = event.member as usize;
-    if m >= CHANNELS {
-        return accounts;
+    if m < CHANNELS {
+        let answer = board::apply(board, event).answer;
+        accounts[m] = accounts[m].after_call(event.kind, answer);
     }
-    let outcome = board::apply(board, event);
-    let own = accounts[m];
-    let mut r = accounts;
-    r[m] = own.after_call(event.kind, outcome.answer);
-    r
+    accounts
 }
 
 // The five numbers of an account and its channel at the end.
@@ -181,10 +152,9 @@ pub fn start() -> Audit
     ensures board { result.board ≡ reset_board }
     ensures accounts { result.accounts ≡ no_accounts }
 {
-    let nothing = none();
     Audit {
         board: board::reset(),
-        accounts: nothing,
+        accounts: none(),
     }
 }
 
@@ -194,14 +164,9 @@ impl Audit {
         ensures board { result.board ≡ (applied self.board event).state }
         ensures accounts { result.accounts ≡ accounts_after (repaired_board self.board) event self.accounts }
     {
-        let board = self.board;
-        let accounts = self.accounts;
-        let next = go_on(accounts, board, event);
-        let outcome = board::apply(board, event);
-        let after = outcome.board;
         Audit {
-            board: after,
-            accounts: next,
+            board: board::apply(self.board, event).board,
+            accounts: go_on(self.accounts, self.board, event),
         }
     }
 }

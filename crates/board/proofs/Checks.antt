@@ -2,13 +2,10 @@
 -- Assumes nothing.
 use mathlib.Core.Path.{◌≡◌, refl, ap, sym, ◌∙◌}
 use mathlib.Core.Bool.{Bool, true, false, not}
-use mathlib.Core.List.{[], ◌∷◌}
 use Prim.Native.Nat.{ℕ, ◌<◌}
 use native.Mathlib.Omega.{arith}
 use borrow.Author.Tests.{ne_eqb, ltb-true, not-true, not-false}
 use lib.Dec.{ltb}
-use types.Run.{OneOf, miss}
-use denote.Enum.Declared.{tag_of}
 use Rattle.words.proofs.Cases.{tested}
 use Rattle.calls.specs.Reply.{refuse}
 use Rattle.calls.specs.Fields.{fits}
@@ -17,7 +14,6 @@ use Rattle.board.specs.Respond.{class_of, is_barred, refusal_in, refusal_by, pas
 use Rattle.board.specs.declared.Class.{Class}
 use Rattle.board.specs.declared.Class.TheVariants.{Step, OnChannel, OnPin, OnVirtual, OnBoard, Unknown}
 use Rattle.board.specs.declared.Board.{Board}
-use Rattle.board.specs.contracts.Class as class
 
 -- what is to be shown of what the checks find, by the cases of the checks
 module _ (n : ℕ) (writes : Bool) (e : Event) where
@@ -39,15 +35,16 @@ module _ (n : ℕ) (writes : Bool) (e : Event) where
       by-checks (λ r. r ≡ 0 → e.member < n) (λ _ z. absurd (omega (arith, z))) (λ _ _ z. absurd (omega (arith, z))) (λ _ _ _ z. absurd (omega (arith, z)))
       (λ h _ _ _. ltb-true _ _ h)
 
--- it is a call on the board where its class, by a match on the first four, is none of channel, pin and virtual output
-pub on-board : (C : Class) (writes : Bool) (e : Event) → refusal_by C writes e ≡ 0 → OneOf (0 ∷ 4 ∷ 5 ∷ []) (tag_of class.the_type C) → C ≡ OnBoard
+-- it is a call on the board where its class is none of channel, pin and virtual output
+pub on-board : (C : Class) (writes : Bool) (e : Event) → refusal_by C writes e ≡ 0
+    → (C ≡ OnChannel → ⊥) → (C ≡ OnPin → ⊥) → (C ≡ OnVirtual → ⊥) → C ≡ OnBoard
 unfolding refusal_by
-on-board Step writes e r t = let z : ◌≡◌ {A = ℕ} 3 0 = r in absurd (omega arith)
-on-board OnChannel writes e r t = absurd (miss (0 ∷ 4 ∷ 5 ∷ []) 1 tt t)
-on-board OnPin writes e r t = absurd (miss (0 ∷ 4 ∷ 5 ∷ []) 2 tt t)
-on-board OnVirtual writes e r t = absurd (miss (0 ∷ 4 ∷ 5 ∷ []) 3 tt t)
-on-board OnBoard writes e r t = refl
-on-board Unknown writes e r t = let z : ◌≡◌ {A = ℕ} 2 0 = r in absurd (omega arith)
+on-board Step writes e r x y z = let no : ◌≡◌ {A = ℕ} 3 0 = r in absurd (omega arith)
+on-board OnChannel writes e r x y z = absurd (x refl)
+on-board OnPin writes e r x y z = absurd (y refl)
+on-board OnVirtual writes e r x y z = absurd (z refl)
+on-board OnBoard writes e r x y z = refl
+on-board Unknown writes e r x y z = let no : ◌≡◌ {A = ℕ} 2 0 = r in absurd (omega arith)
 
 -- C is the class that was found, n what the checks found
 module _ (b : Board) (e : Event) (C : Class) (n : ℕ) (class : C ≡ class_of e.kind) (found : n ≡ refusal_by C b.core.safety.writes e) where

@@ -16,7 +16,7 @@ use Rattle.ports.specs.Virtuals.{virtual_at}
 use Rattle.ports.specs.declared.Pin.{Pin}
 use Rattle.ports.specs.declared.Virtual.{Virtual}
 use Rattle.control.specs.declared.Core.{Core}
-use Rattle.calls.specs.Reply.{Reply}
+use Rattle.calls.specs.declared.Reply.{Reply}
 use Rattle.calls.specs.Fields.{is_step, step_fits}
 use Rattle.calls.specs.ChannelCalls.{mode_write, route_write, snapshot_read, channel_call}
 use Rattle.calls.specs.PinCalls.{pin_call, whole_call}

@@ -9,7 +9,8 @@ use Rattle.counter.specs.Repair.{channel_in_range, repaired, reset_channel}
 use Rattle.ports.specs.Pins.{pins_in_range, repaired_pins, reset_pins}
 use Rattle.ports.specs.Virtuals.{virtuals_in_range, repaired_virtuals, reset_virtuals}
 use Rattle.control.specs.Whole.{core_in_range, repaired_core, reset_core}
-use Rattle.calls.specs.Reply.{Reply, reply}
+use Rattle.calls.specs.Reply.{reply}
+use Rattle.calls.specs.declared.Reply.{Reply}
 use Rattle.calls.specs.declared.Event.{Event}
 use Rattle.board.specs.Inputs.{channel_in}
 use Rattle.board.specs.Respond.{with_channels, respond}

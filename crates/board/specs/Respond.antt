@@ -6,7 +6,8 @@ use Rattle.counter.specs.declared.Channel.{Channel}
 use Rattle.ports.specs.declared.Pins.{Pins}
 use Rattle.ports.specs.declared.Virtuals.{Virtuals}
 use Rattle.control.specs.declared.Core.{Core}
-use Rattle.calls.specs.Reply.{Reply, reply, refuse, accept}
+use Rattle.calls.specs.Reply.{reply, refuse, accept}
+use Rattle.calls.specs.declared.Reply.{Reply}
 use Rattle.calls.specs.Fields.{is_step, fits}
 use Rattle.calls.specs.ChannelCalls.{channel_call}
 use Rattle.calls.specs.PinCalls.{pins_call}

@@ -1,42 +1,30 @@
 // The entry point: any board, any event.
-ghost use Rattle.std.specs.Prelude.{◌≡◌};
-ghost use Rattle.board.specs.Respond.{outcome};
+ghost use Rattle.std.specs.Prelude.{◌≡◌, true};
+ghost use Rattle.board.specs.Respond.{called, outcome};
 ghost use Rattle.board.specs.Handed.{reset_board, in_range, repaired_board, lost_cleared, kept, applied};
-ghost use Rattle.counter.specs.Repair.{repaired};
 
 use crate::{Board, CHANNELS, Outcome};
-use calls::Event;
-use counter::Channel;
-
-// A channel handed in.
-fn repair_channel(c: Channel) -> Channel
-    ensures { result ≡ repaired c }
-{
-    c.repair()
-}
+use calls::{Answer, Event, Refusal, Reply};
 
 impl Board {
-    // Each field outside its range counts as its value at reset.
+    // Each field outside its range counts as its value at reset. The six channels are written out here
+    // and in `is_sound`: with `all` over them two goals of its proof did not close.
     pub fn repair(self) -> Board
         ensures { result ≡ repaired_board self }
     {
-        let cs = self.channels;
-        let pins = self.pins;
-        let virtuals = self.virtuals;
-        let core = self.core;
-        let sound = [
-            repair_channel(cs[0]),
-            repair_channel(cs[1]),
-            repair_channel(cs[2]),
-            repair_channel(cs[3]),
-            repair_channel(cs[4]),
-            repair_channel(cs[5]),
-        ];
+        let [c0, c1, c2, c3, c4, c5] = self.channels;
         Board {
-            channels: sound,
-            pins: pins.repair(),
-            virtuals: virtuals.repair(),
-            core: core.repair(),
+            channels: [
+                c0.repair(),
+                c1.repair(),
+                c2.repair(),
+                c3.repair(),
+                c4.repair(),
+                c5.repair(),
+            ],
+            pins: self.pins.repair(),
+            virtuals: self.virtuals.repair(),
+            core: self.core.repair(),
         }
     }
 
@@ -44,36 +32,26 @@ impl Board {
     pub fn is_sound(self) -> bool
         ensures { result ≡ in_range self }
     {
-        let cs = self.channels;
-        let pins = self.pins;
-        let virtuals = self.virtuals;
-        let core = self.core;
-        let o0 = cs[0];
-        let o1 = cs[1];
-        let o2 = cs[2];
-        let o3 = cs[3];
-        let o4 = cs[4];
-        let o5 = cs[5];
-        o0.is_sound()
-            & o1.is_sound()
-            & o2.is_sound()
-            & o3.is_sound()
-            & o4.is_sound()
-            & o5.is_sound()
-            & pins.is_sound()
-            & virtuals.is_sound()
-            & core.is_sound()
+        let [c0, c1, c2, c3, c4, c5] = self.channels;
+        c0.is_sound()
+            & c1.is_sound()
+            & c2.is_sound()
+            & c3.is_sound()
+            & c4.is_sound()
+            & c5.is_sound()
+            & self.pins.is_sound()
+            & self.virtuals.is_sound()
+            & self.core.is_sound()
     }
 
     // The lost count of a channel to 0.
+    #[tactic(auto, unfolding(crate::specs::Handed::lost_cleared))]
     pub fn clear_lost(mut self, member: u8) -> Board
         ensures { result ≡ lost_cleared member self }
     {
         let m = member as usize;
         if m < CHANNELS {
-            let mut c = self.channels[m];
-            c.lost = 0;
-            self.channels[m] = c;
+            self.channels[m].lost = 0;
         }
         self
     }
@@ -84,23 +62,36 @@ fn mended(board: Board) -> Board
     ensures { result ≡ repaired_board board }
 {
     if board.is_sound() {
-        return board;
+        board
+    } else {
+        board.repair()
     }
-    board.repair()
 }
 
-// What stays of the board handed in, where the repaired one answers with this result and leaves
-// that board.
-fn kept(board: Board, member: u8, res: u32, next: Board) -> Board
-    ensures { result ≡ kept board member res next }
+// What stays of the board handed in, where the repaired one answers so and leaves that board.
+#[tactic(auto, unfolding(crate::specs::Handed::kept))]
+fn kept(board: Board, member: u8, answer: Answer, next: Board) -> Board
+    ensures { result ≡ kept board member answer.result next }
 {
-    if res == 0 {
-        return next;
+    if answer.is_accepted() {
+        next
+    } else if answer.tells(Refusal::Lost) {
+        board.clear_lost(member)
+    } else {
+        board
     }
-    if res == 6 {
-        return board.clear_lost(member);
+}
+
+// The reply to an event that is no accepted step.
+fn replied(mut board: Board, event: Event) -> Reply<Board>
+    requires { in_range board ≡ true }
+    ensures { result ≡ called board event }
+{
+    let answer = board.call(event);
+    Reply {
+        state: board,
+        answer,
     }
-    board
 }
 
 // The answer of any event on any board, and the next board.
@@ -114,22 +105,20 @@ pub fn apply(board: Board, event: Event) -> Outcome
             answer: calls::number(0, 0),
         };
     }
-    let r = sound.call(event);
-    let answer = r.answer;
-    let next = r.board;
+    let reply = replied(sound, event);
     Outcome {
-        board: kept(board, event.member, answer.result, next),
-        answer: answer,
+        board: kept(board, event.member, reply.answer, reply.state),
+        answer: reply.answer,
     }
 }
 
 // A board at reset.
+#[tactic(auto, unfolding(crate::specs::Handed::reset_board))]
 pub fn reset() -> Board
     ensures { result ≡ reset_board }
 {
-    let c = counter::reset();
     Board {
-        channels: [c; CHANNELS],
+        channels: [counter::reset(); CHANNELS],
         pins: ports::reset_pins(),
         virtuals: ports::reset_virtuals(),
         core: control::reset(),

@@ -27,8 +27,9 @@ pub struct Board {
     pub core: Core,
 }
 
-// The classes of kinds.
-#[derive(Clone, Copy)]
+// The classes of kinds. `Unknown` is one of them and no `None`: `class_of` and `refusal_by` of specs/,
+// over which the order of the checks is proved, go by it.
+#[derive(Clone, Copy, Debug, PartialEq, Eq)]
 pub enum Class {
     Step,
     OnChannel,

@@ -1,12 +1,12 @@
 // Every event but an accepted step, on a board whose fields are in their ranges.
-ghost use Rattle.std.specs.Prelude.{◌≡◌, true, ◌<◌};
-ghost use Rattle.ports.specs.Pins.{pins_in_range};
-ghost use Rattle.calls.specs.Reply.{refuse};
-ghost use Rattle.board.specs.Respond.{class_of, is_safe_write, refusal_in, refusal_by, passed_by, called, outcome};
+ghost use Rattle.std.specs.Prelude.{◌≡◌, true};
+ghost use Rattle.calls.specs.Refused.{result_of};
+ghost use Rattle.calls.specs.Reply.{reply};
+ghost use Rattle.board.specs.Respond.{class_of, is_safe_write, refusal_in, refusal_by, called};
 ghost use Rattle.board.specs.Handed.{in_range};
 
-use crate::{Board, Class, Outcome};
-use calls::Event;
+use crate::{Board, Class};
+use calls::{Answer, Event, Kind, Refusal};
 
 // How many members the calls of a class have.
 const CHANNEL_MEMBERS: u8 = crate::CHANNELS as u8;
@@ -18,96 +18,28 @@ const VIRTUAL_MEMBERS: u8 = ports::VIRTUALS as u8;
 const BOARD_MEMBERS: u8 = 1;
 
 impl Board {
-    // An event that changes nothing is answered with its result.
-    fn refuse(self, res: u32) -> Outcome
-        ensures { result ≡ outcome (refuse res self) }
-    {
-        Outcome {
-            board: self,
-            answer: calls::number(res, 0),
-        }
-    }
-
-    // Calls 1 to 12, past the checks.
-    fn channel_event(mut self, e: Event) -> Outcome
-        requires { e.member < 6 }
-        ensures { result ≡ outcome (passed_by Class.OnChannel self e) }
-    {
-        let m = e.member as usize;
-        let c = self.channels[m];
-        let r = calls::channel_call(self.core.clock.timestamp, e, c);
-        let next = r.channel;
-        let answer = r.answer;
-        self.channels[m] = next;
-        Outcome {
-            board: self,
-            answer: answer,
-        }
-    }
-
-    // Calls 13 to 17 and 30, past the checks.
-    fn pin_event(mut self, e: Event) -> Outcome
-        requires member_bound { e.member < 48 }
-        requires pins_value { pins_in_range self.pins ≡ true }
-        ensures { result ≡ outcome (passed_by Class.OnPin self e) }
-    {
-        let pins = self.pins;
-        let r = calls::pins_call(e, pins);
-        let next = r.pins;
-        let answer = r.answer;
-        self.pins = next;
-        Outcome {
-            board: self,
-            answer: answer,
-        }
-    }
-
-    // Calls 18 to 21, past the checks.
-    fn virtual_event(mut self, e: Event) -> Outcome
-        requires { e.member < 6 }
-        ensures { result ≡ outcome (passed_by Class.OnVirtual self e) }
-    {
-        let outputs = self.virtuals;
-        let r = calls::virtuals_call(e, outputs);
-        let next = r.outputs;
-        let answer = r.answer;
-        self.virtuals = next;
-        Outcome {
-            board: self,
-            answer: answer,
-        }
-    }
-
-    // Calls 22 to 29, past the checks.
-    fn board_event(mut self, e: Event) -> Outcome
-        ensures { result ≡ outcome (passed_by Class.OnBoard self e) }
-    {
-        let core = self.core;
-        let r = calls::board_call(e, core);
-        let next = r.core;
-        let answer = r.answer;
-        self.core = next;
-        Outcome {
-            board: self,
-            answer: answer,
-        }
-    }
-
-    // Every event but an accepted step.
-    pub(crate) fn call(self, e: Event) -> Outcome
-        requires { in_range self ≡ true }
-        ensures { result ≡ outcome (called self e) }
+    // Every event but an accepted step, and its answer. What the event names is taken out of the
+    // board and put back, so that the board stays where it is. That the board is sound is a clause, here
+    // and where `runs` goes from event to event: a type for it would be opened and made anew at each.
+    pub fn call(&mut self, e: Event) -> Answer
+        requires { in_range self.old ≡ true }
+        ensures { reply self.new result ≡ called self.old e }
     {
         let class = class_of(e.kind);
-        let result = refusal(class, self.core.safety.writes, e);
-        if result != 0 {
-            return self.refuse(result);
+        if let Some(refusal) = refusal(class, self.core.safety.writes, e) {
+            return calls::number(u32::from(refusal), 0);
         }
         match class {
-            Class::OnChannel => self.channel_event(e),
-            Class::OnPin => self.pin_event(e),
-            Class::OnVirtual => self.virtual_event(e),
-            _ => self.board_event(e),
+            Class::OnChannel => {
+                let m = e.member as usize;
+                let timestamp = self.core.clock.timestamp;
+                let called = calls::channel_call(timestamp, e, self.channels[m]);
+                self.channels[m] = called.state;
+                called.answer
+            }
+            Class::OnPin => calls::pins_call(e, self.pins).store(&mut self.pins),
+            Class::OnVirtual => calls::virtuals_call(e, self.virtuals).store(&mut self.virtuals),
+            _ => calls::board_call(e, self.core).store(&mut self.core),
         }
     }
 }
@@ -116,53 +48,88 @@ impl Board {
 pub fn class_of(kind: u8) -> Class
     ensures { result ≡ class_of kind }
 {
+    let Ok(kind) = Kind::try_from(kind) else {
+        return Class::Unknown;
+    };
     match kind {
-        0 => Class::Step,
-        1..=12 => Class::OnChannel,
-        13..=17 | 30 => Class::OnPin,
-        18..=21 => Class::OnVirtual,
-        22..=29 => Class::OnBoard,
-        _ => Class::Unknown,
+        Kind::Step => Class::Step,
+        Kind::ModeWrite
+        | Kind::PreloadWrite
+        | Kind::CompareWrite
+        | Kind::RouteWrite
+        | Kind::MaskWrite
+        | Kind::Start
+        | Kind::Halt
+        | Kind::Snapshot
+        | Kind::SoftPreload
+        | Kind::CountRead
+        | Kind::SnapshotRead
+        | Kind::ChannelStatus => Class::OnChannel,
+        Kind::SourceWrite
+        | Kind::PinDataWrite
+        | Kind::PinSafeDataWrite
+        | Kind::PinSafeEnableWrite
+        | Kind::PinLevelRead
+        | Kind::FilterWrite => Class::OnPin,
+        Kind::VirtualDataWrite
+        | Kind::VirtualSafeDataWrite
+        | Kind::VirtualSafeEnableWrite
+        | Kind::VirtualDataRead => Class::OnVirtual,
+        Kind::ControlWrite
+        | Kind::SweWrite
+        | Kind::SafemodeClear
+        | Kind::IntervalWrite
+        | Kind::WatchdogEnableWrite
+        | Kind::WatchdogKick
+        | Kind::TimestampRead
+        | Kind::BoardStatus => Class::OnBoard,
     }
 }
 
-// A safe write: 15 and 16 on a pin, 19 and 20 on a virtual output.
+// A safe write, on a pin or a virtual output.
 fn is_safe_write(kind: u8) -> bool
     ensures { result ≡ is_safe_write kind }
 {
-    (kind == 15) | (kind == 16) | (kind == 19) | (kind == 20)
+    matches!(
+        Kind::try_from(kind),
+        Ok(
+            Kind::PinSafeDataWrite
+                | Kind::PinSafeEnableWrite
+                | Kind::VirtualSafeDataWrite
+                | Kind::VirtualSafeEnableWrite
+        )
+    )
 }
 
-// 1 where the member is not one of n, 3 where a field does not fit, 12 where SWE bars the call,
-// else 0.
-fn refusal_in(n: u8, writes: bool, e: Event) -> u32
-    ensures { result ≡ refusal_in n writes e }
+// What is found of a call of a class with so many members: the member is not one of them, a field
+// does not fit, or SWE bars it.
+#[tactic(auto, unfolding(crate::specs::Respond::refusal_in))]
+fn refusal_in(members: u8, writes: bool, e: Event) -> Option<Refusal>
+    ensures { result_of result ≡ refusal_in members writes e }
 {
-    let fit = calls::fits(e);
-    let barred = is_safe_write(e.kind) & !writes;
-    if e.member >= n {
-        return 1;
+    if e.member >= members {
+        Some(Refusal::Member)
+    } else if !calls::fits(e) {
+        Some(Refusal::Field)
+    } else if is_safe_write(e.kind) && !writes {
+        Some(Refusal::Barred)
+    } else {
+        None
     }
-    if !fit {
-        return 3;
-    }
-    if barred {
-        return 12;
-    }
-    0
 }
 
-// What the checks on kind, member, fields and SWE find of an event that is no accepted step: 2, 1,
-// 3, 12, or 0 for nothing. A step is here because its fields did not fit.
-pub fn refusal(class: Class, writes: bool, e: Event) -> u32
-    ensures { result ≡ refusal_by class writes e }
+// What the checks on kind, member, fields and SWE find of an event that is no accepted step. A step
+// is here because its fields did not fit.
+#[tactic(auto, unfolding(crate::specs::Respond::refusal_by))]
+pub fn refusal(class: Class, writes: bool, e: Event) -> Option<Refusal>
+    ensures { result_of result ≡ refusal_by class writes e }
 {
     match class {
-        Class::Step => 3,
+        Class::Step => Some(Refusal::Field),
         Class::OnChannel => refusal_in(CHANNEL_MEMBERS, writes, e),
         Class::OnPin => refusal_in(PIN_MEMBERS, writes, e),
         Class::OnVirtual => refusal_in(VIRTUAL_MEMBERS, writes, e),
         Class::OnBoard => refusal_in(BOARD_MEMBERS, writes, e),
-        Class::Unknown => 2,
+        Class::Unknown => Some(Refusal::Kind),
     }
 }

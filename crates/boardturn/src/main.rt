@@ -3,57 +3,40 @@
 // on standard error, and ends the file: the blocks before it are written and no more.
 #![tactic(auto)]
 
-ghost use Rattle.std.specs.Prelude.{◌≡◌, length};
-
 use history::BLOCK;
+use streams::Ending;
 
-// The last place of a file that is looked at: no block may stand there.
-const LAST: u32 = history::BLOCKS as u32;
+// The places of a file that are looked at: no block may stand at the last.
+const PLACES: u32 = history::BLOCKS as u32 + 1;
 
-// Writes the column block of one place, or tells that it is bad, and answers whether all went well.
-fn write_place(rt: HostRuntime, place: u32, bytes: &[u8], more: bool, out: &mut [u8]) -> bool {
-    let t = turn::turn_place(place, bytes, more, out);
-    let n = t.written;
-    if t.result != 0 {
-        let _ = rt.stderr().write_all(&out[..n]);
-        return false;
+// Writes the column block of one place, or tells that it is bad, which ends the work.
+fn write_place(rt: HostRuntime, place: u32, bytes: &[u8], more: bool) -> Result<bool, Ending> {
+    let mut out = [0u8; BLOCK];
+    match turn::turn_place(place, bytes, more, &mut out) {
+        Ok(n) => {
+            streams::print(rt, &out[..n])?;
+            Ok(true)
+        }
+        Err(bad) => {
+            let n = bad.written;
+            let _ = rt.stderr().write_all(&out[..n]);
+            Ok(false)
+        }
     }
-    streams::print(rt, b"boardturn", &out[..n])
 }
 
 // Goes through the whole input, as long as its blocks are sound and no read or write fails.
-fn convert(rt: HostRuntime, one: &mut [u8], two: &mut [u8], out: &mut [u8])
-    requires one_len { length one.old ≡ 512 }
-    requires two_len { length two.old ≡ 512 }
-{
-    let mut place: u32 = 0;
-    let mut have = streams::fill(rt.stdin(), one);
-    while place <= LAST {
-        let next = streams::fill(rt.stdin(), two);
-        let error = streams::error_of(have, next);
-        if error != 0 {
-            streams::fail(rt, b"boardturn", b"read", error);
-            return;
-        }
-        let n = have.count;
-        if n == 0 {
-            return;
-        }
-        if !write_place(rt, place, &one[..n], next.count > 0, out) {
-            return;
-        }
-        buffers::copy_to(two, one, 0);
-        have = next;
-        place += 1;
-    }
+fn run(rt: HostRuntime) -> Result<(), Ending> {
+    streams::ready(rt)?;
+    streams::each_block(rt.stdin(), PLACES, |place, bytes, more| {
+        write_place(rt, place, bytes, more)
+    })?;
+    Ok(())
 }
 
+// Its status is 0 also where the input is bad or a write fails, so it answers no Result.
 fn main(rt: HostRuntime) {
-    if !streams::is_ready(rt, b"boardturn") {
-        return;
+    if let Err(why) = run(rt) {
+        streams::tell(rt, "boardturn", why);
     }
-    let mut one = [0u8; BLOCK];
-    let mut two = [0u8; BLOCK];
-    let mut out = [0u8; BLOCK];
-    convert(rt, &mut one, &mut two, &mut out);
 }

@@ -1,4 +1,6 @@
 pub mod Put
 pub mod Joined
 pub mod Little
+pub mod Bytes
+pub mod Chunks
 pub mod Wrote

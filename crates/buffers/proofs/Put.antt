@@ -6,7 +6,7 @@ use Prim.Native.Nat.{ℕ, ◌+◌, ◌≤◌, ◌<◌}
 use native.Mathlib.Nat.{add-zero, zero-add}
 use native.Mathlib.Numerals.{add-one}
 use native.Mathlib.Omega.{arith}
-use lib.ListN.{length, take, drop, set, get_or, replicate, length-replicate, replicate-append-replicate, length-append, length-take, length-drop, take-append-drop}
+use lib.ListN.{length, take, drop, set, get_or, length-append, length-take, length-drop, take-append-drop}
 use lib.Seq.{length-take-le, take-suc, take_at, set_split, drop-drop, drop-length, drop-append-add}
 use borrow.Rule.Slice.PartMut.{put_mid}
 use Rattle.buffers.specs.Pieces.{put}
@@ -74,11 +74,6 @@ pub copy_more : (s d : List ℕ) (at i : ℕ) → i < length s → at + i < leng
 copy_more s d at i h k =
     let len : length (take i s) ≡ i = length-take-le i s (omega arith) in
     put-set d at (take i s) (at + i) (get_or s i 0) (simp len) k ∙ simp (add-one, take-suc s i 0)
-
--- a run of one value with one more
-pub fill_more : (d : List ℕ) (at i x : ℕ) → at + i < length d → set (put d at (replicate i x)) (at + i) x ≡ put d at (replicate (i + 1) x)
-fill_more d at i x k =
-    put-set d at (replicate i x) (at + i) x (simp length-replicate) k ∙ ap (put d at) (replicate-append-replicate i 1 x)
 
 -- what was put at the start is found there
 pub take_put : (d p : List ℕ) → take (length p) (put d 0 p) ≡ p

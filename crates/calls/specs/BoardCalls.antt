@@ -7,7 +7,8 @@ use Rattle.control.specs.Safety.{with_control, with_writes, with_safemode}
 use Rattle.control.specs.Whole.{with_watchdog, with_safety}
 use Rattle.control.specs.declared.Watchdog.{Watchdog}
 use Rattle.control.specs.declared.Core.{Core}
-use Rattle.calls.specs.Reply.{Reply, refuse, accept, tell}
+use Rattle.calls.specs.Reply.{refuse, accept, tell}
+use Rattle.calls.specs.declared.Reply.{Reply}
 use Rattle.calls.specs.declared.Event.{Event}
 
 -- 25 watchdog interval, of the stage that the selector names: 7 while the watchdog is enabled

@@ -6,7 +6,8 @@ use Rattle.counter.specs.Setters.{with_mode, with_preloads, with_compares, with_
 use Rattle.counter.specs.Queue.{captured, popped}
 use Rattle.counter.specs.Preload.{preloaded, started}
 use Rattle.counter.specs.declared.Channel.{Channel}
-use Rattle.calls.specs.Reply.{Reply, reply, number, refuse, accept, tell}
+use Rattle.calls.specs.Reply.{reply, number, refuse, accept, tell}
+use Rattle.calls.specs.declared.Reply.{Reply}
 use Rattle.calls.specs.declared.Event.{Event}
 
 -- 1 mode write: 4 while running; preload 0 is selected

@@ -1,3 +1,5 @@
+pub mod Kinds
+pub mod Refused
 pub mod Reply
 pub mod Fields
 pub mod ChannelCalls

@@ -6,7 +6,8 @@ use Rattle.words.specs.Bits.{flag}
 use Rattle.ports.specs.Pins.{WholePin, whole_at, put_whole}
 use Rattle.ports.specs.declared.Pin.{Pin}
 use Rattle.ports.specs.declared.Pins.{Pins}
-use Rattle.calls.specs.Reply.{Reply, reply, accept, tell}
+use Rattle.calls.specs.Reply.{reply, accept, tell}
+use Rattle.calls.specs.declared.Reply.{Reply}
 use Rattle.calls.specs.declared.Event.{Event}
 
 abbrev pub with_source : ℕ → Pin → Pin

@@ -6,7 +6,8 @@ use Rattle.words.specs.Bits.{flag}
 use Rattle.ports.specs.Virtuals.{virtual_at, put_virtual}
 use Rattle.ports.specs.declared.Virtual.{Virtual}
 use Rattle.ports.specs.declared.Virtuals.{Virtuals}
-use Rattle.calls.specs.Reply.{Reply, reply, accept, tell}
+use Rattle.calls.specs.Reply.{reply, accept, tell}
+use Rattle.calls.specs.declared.Reply.{Reply}
 use Rattle.calls.specs.declared.Event.{Event}
 
 abbrev pub with_own : Bool → Virtual → Virtual

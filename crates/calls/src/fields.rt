@@ -1,8 +1,9 @@
 // Result 3: the field checks of a step and of each call.
 ghost use Rattle.std.specs.Prelude.{◌≡◌};
+ghost use Rattle.calls.specs.Kinds.{number_of};
 ghost use Rattle.calls.specs.Fields.{step_fits, is_step, limit, selectors, fits};
 
-use crate::Event;
+use crate::{Event, Kind};
 
 // The kinds, 0 to 30.
 pub const KINDS: u8 = 31;
@@ -13,77 +14,66 @@ pub const LINES: u32 = 1 << 18;
 // Every V is below this.
 const ANY: u64 = 1 << 32;
 
-// V is below this, kind by kind: 2 for one bit, 1 where V is unused.
-const LIMITS: [u64; KINDS as usize] = [
-    0, // 0 is no call
-    counter::mode::WORDS as u64, // 1 mode write
-    ANY, // 2 preload write
-    ANY, // 3 compare write
-    counter::ROUTES as u64, // 4 route
-    counter::REASONS as u64, // 5 mask
-    1, // 6 start
-    1, // 7 halt
-    1, // 8 soft snapshot
-    1, // 9 soft preload
-    1, // 10 count read
-    1, // 11 snapshot read
-    1, // 12 status
-    ports::SOURCES as u64, // 13 source
-    2, // 14 data
-    2, // 15 safe data
-    2, // 16 safe enable
-    1, // 17 read
-    2, // 18 data
-    2, // 19 safe data
-    2, // 20 safe enable
-    1, // 21 data read
-    control::CONTROLS as u64, // 22 control
-    2, // 23 SWE
-    1, // 24 clear safemode
-    ANY, // 25 interval
-    2, // 26 watchdog enable
-    1, // 27 kick
-    1, // 28 timestamp
-    1, // 29 status
-    ports::FILTERS as u64, // 30 filter write
-];
+// V of one bit is below this, and V where it is unused.
+const BIT: u64 = 2;
 
-// The limit of V, 0 for an unknown kind.
-fn limit(kind: u8) -> u64
-    ensures { result ≡ limit kind }
-{
-    let at = kind as usize;
-    if kind < KINDS { LIMITS[at] } else { 0 }
-}
+const UNUSED: u64 = 1;
 
-// The selector is below this, kind by kind.
-fn selectors(kind: u8) -> u8
-    ensures { result ≡ selectors kind }
-{
-    match kind {
-        2 => 2,
-        3 => 2,
-        25 => control::STAGES as u8,
-        _ => 1,
+impl Kind {
+    // V of a call is below this; a step is no call.
+    #[tactic(auto, unfolding(crate::specs::Fields::limit, crate::specs::Fields::limits))]
+    fn limit(self) -> u64
+        ensures { result ≡ limit (number_of self) }
+    {
+        match self {
+            Kind::Step => 0,
+            Kind::ModeWrite => counter::mode::WORDS as u64,
+            Kind::PreloadWrite | Kind::CompareWrite | Kind::IntervalWrite => ANY,
+            Kind::RouteWrite => counter::ROUTES as u64,
+            Kind::MaskWrite => counter::REASONS as u64,
+            Kind::SourceWrite => ports::SOURCES as u64,
+            Kind::PinDataWrite | Kind::PinSafeDataWrite | Kind::PinSafeEnableWrite => BIT,
+            Kind::VirtualDataWrite | Kind::VirtualSafeDataWrite | Kind::VirtualSafeEnableWrite => {
+                BIT
+            }
+            Kind::ControlWrite => control::CONTROLS as u64,
+            Kind::SweWrite | Kind::WatchdogEnableWrite => BIT,
+            Kind::FilterWrite => ports::FILTERS as u64,
+            _ => UNUSED,
+        }
+    }
+
+    // The selector is below this.
+    #[tactic(auto, unfolding(crate::specs::Fields::selectors))]
+    fn selectors(self) -> u8
+        ensures { result ≡ selectors (number_of self) }
+    {
+        match self {
+            Kind::PreloadWrite | Kind::CompareWrite => 2,
+            Kind::IntervalWrite => control::STAGES as u8,
+            _ => 1,
+        }
     }
 }
 
 // Every field of a call is as its kind wants it.
+#[tactic(auto, unfolding(crate::specs::Fields::fits))]
 pub fn fits(e: Event) -> bool
     ensures { result ≡ fits e }
 {
-    let chosen = selectors(e.kind);
-    let most = limit(e.kind);
-    let good = counter::mode::is_good(e.v);
-    (e.spare == 0)
-        & (e.selector < chosen)
-        & (e.w == 0)
-        & ((e.v as u64) < most)
-        & (!(e.kind == 1) | good)
-        & (!(e.kind == 25) | !(e.v == 0))
+    let Ok(kind) = Kind::try_from(e.kind) else {
+        return false;
+    };
+    let good = match kind {
+        Kind::ModeWrite => counter::mode::is_good(e.v),
+        Kind::IntervalWrite => e.v != 0,
+        _ => true,
+    };
+    e.spare == 0 && e.selector < kind.selectors() && e.w == 0 && (e.v as u64) < kind.limit() && good
 }
 
 // Every field of a step is as it wants it.
+#[tactic(auto, unfolding(crate::specs::Fields::step_fits))]
 fn step_fits(e: Event) -> bool
     ensures { result ≡ step_fits e }
 {
@@ -94,5 +84,5 @@ fn step_fits(e: Event) -> bool
 pub fn is_step(e: Event) -> bool
     ensures { result ≡ is_step e }
 {
-    (e.kind == 0) & step_fits(e)
+    (e.kind == Kind::Step as u8) & step_fits(e)
 }

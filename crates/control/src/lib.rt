@@ -47,7 +47,8 @@ pub struct Clock {
 }
 
 // Each stage has its interval and its rest. `expired` is how many stages have expired: the first so
-// many, since a stage runs only when the one before it has expired.
+// many, since a stage runs only when the one before it has expired. The two arrays are the layout
+// that C sees.
 #[repr(C)]
 #[derive(Clone, Copy)]
 pub struct Watchdog {
@@ -79,15 +80,15 @@ impl Clock {
     pub fn advance(self) -> Clock
         ensures { result ≡ advanced self }
     {
-        let p = next_prescaler(self.prescaler);
-        if rises_at(p) {
+        let prescaler = next_prescaler(self.prescaler);
+        if rises_at(prescaler) {
             Clock {
-                prescaler: p,
-                timestamp: std::num::wrapping_add_u32(self.timestamp, 1),
+                prescaler,
+                timestamp: self.timestamp.wrapping_add(1),
             }
         } else {
             Clock {
-                prescaler: p,
+                prescaler,
                 timestamp: self.timestamp,
             }
         }
@@ -143,9 +144,7 @@ pub fn ticks(p: u32) -> u64
     ensures { result ≡ ticks p }
 {
     let mut found: u64 = 0;
-    let mut x: usize = TICKS;
-    while 0 < x {
-        x -= 1;
+    for x in (0..TICKS).rev() {
         if !tick(p, x) {
             return found;
         }
@@ -154,15 +153,20 @@ pub fn ticks(p: u32) -> u64
     found
 }
 
-// The rests after a step: a stage runs where it is the first or the one before it has expired.
+// The rests after a step: a stage runs where it is the first or the one before it has expired. A
+// match for each number, since a loop over the stages takes more (docs/SPEED.md).
 fn rests_after(expired: u32, rests: [u32; STAGES]) -> [u32; STAGES]
     ensures { result ≡ rests_after 3 expired rests }
 {
-    let first = words::less_one(rests[0]);
+    let first = rests[0].saturating_sub(1);
     match expired {
         0 => [first, rests[1], rests[2]],
-        1 => [first, words::less_one(rests[1]), rests[2]],
-        _ => [first, words::less_one(rests[1]), words::less_one(rests[2])],
+        1 => [first, rests[1].saturating_sub(1), rests[2]],
+        _ => [
+            first,
+            rests[1].saturating_sub(1),
+            rests[2].saturating_sub(1),
+        ],
     }
 }
 
@@ -171,9 +175,9 @@ fn expired_after(expired: u32, rests: [u32; STAGES]) -> u32
     ensures { result ≡ expired_after 3 expired rests }
 {
     match expired {
-        0 => if rests[0] == 1 { 1 } else { 0 },
-        1 => if rests[1] == 1 { 2 } else { 1 },
-        2 => if rests[2] == 1 { 3 } else { 2 },
+        0 => u32::from(rests[0] == 1),
+        1 => 1 + u32::from(rests[1] == 1),
+        2 => 2 + u32::from(rests[2] == 1),
         _ => expired,
     }
 }
@@ -198,11 +202,9 @@ impl Watchdog {
         ensures { result ≡ watched self }
     {
         if self.enabled {
-            let before = self.expired;
-            let rests = self.rests;
-            self.expired = expired_after(before, rests);
-            let lower = rests_after(before, rests);
-            self.rests = lower;
+            let expired = expired_after(self.expired, self.rests);
+            self.rests = rests_after(self.expired, self.rests);
+            self.expired = expired;
         }
         self
     }
@@ -211,6 +213,7 @@ impl Watchdog {
     pub fn kick(mut self) -> Watchdog
         ensures { result ≡ kicked self }
     {
+        // By a variable, since no proof covers an array that is stored from field to field.
         let full = self.intervals;
         self.rests = full;
         self.expired = 0;
@@ -232,11 +235,12 @@ impl Watchdog {
         self
     }
 
-    // The interval of a stage at n.
+    // The interval of a stage at n, by its place: what `get_mut` lends says nothing of the array
+    // afterwards.
     pub fn set_interval(mut self, stage: u8, n: u32) -> Watchdog
         ensures { result ≡ with_interval stage n self }
     {
-        let at = stage as usize;
+        let at = usize::from(stage);
         if at < STAGES {
             self.intervals[at] = n;
         }
@@ -247,44 +251,40 @@ impl Watchdog {
     fn is_sound(self) -> bool
         ensures { result ≡ watchdog_in_range self }
     {
-        let i = self.intervals;
-        (0 < i[0]) & (0 < i[1]) & (0 < i[2]) & (self.expired < EXPIRED)
+        self.intervals.iter().all(|&n| 0 < n) & (self.expired < EXPIRED)
     }
 
     // A watchdog handed in.
     pub fn repair(mut self) -> Watchdog
         ensures { result ≡ repaired_watchdog self }
     {
-        let i = self.intervals;
-        self.intervals = [
-            sound_interval(i[0]),
-            sound_interval(i[1]),
-            sound_interval(i[2]),
-        ];
+        self.intervals = self.intervals.map(sound_interval);
         self.expired = words::below(EXPIRED, 0, self.expired);
         self
     }
 }
 
+// Each control bit has a function of its definition's name.
+
 // Control bit 0: pin 47 triggers safemode.
 fn pin_triggers(c: u32) -> bool
     ensures { result ≡ pin_triggers c }
 {
-    c % 2 == 1
+    words::bit_at(c, 0)
 }
 
 // Control bit 1: the level at which pin 47 triggers.
 fn active_level(c: u32) -> bool
     ensures { result ≡ active_level c }
 {
-    (c >> 1) % 2 == 1
+    words::bit_at(c, 1)
 }
 
 // Control bit 2: an expired stage 0 of the watchdog triggers safemode.
 fn watchdog_triggers(c: u32) -> bool
     ensures { result ≡ watchdog_triggers c }
 {
-    (c >> 2) % 2 == 1
+    words::bit_at(c, 2)
 }
 
 impl Safety {
@@ -316,23 +316,19 @@ impl Core {
     pub fn is_sound(self) -> bool
         ensures { result ≡ core_in_range self }
     {
-        let clock = self.clock;
-        let watchdog = self.watchdog;
-        let safety = self.safety;
-        (clock.prescaler < PRESCALE) & watchdog.is_sound() & (safety.control < CONTROLS)
+        (self.clock.prescaler < PRESCALE)
+            & self.watchdog.is_sound()
+            & (self.safety.control < CONTROLS)
     }
 
     // The board's own part handed in.
     pub fn repair(self) -> Core
         ensures { result ≡ repaired_core self }
     {
-        let clock = self.clock;
-        let watchdog = self.watchdog;
-        let safety = self.safety;
         Core {
-            clock: clock.repair(),
-            watchdog: watchdog.repair(),
-            safety: safety.repair(),
+            clock: self.clock.repair(),
+            watchdog: self.watchdog.repair(),
+            safety: self.safety.repair(),
         }
     }
 }

@@ -1,9 +1,8 @@
 -- Document 01, "A running channel": the difference d, what it makes of the count, and the carry.
 -- Assumes nothing.
-use Rattle.std.specs.Prelude.{◌≡◌, ℕ, ◌+◌, ◌-◌, ◌%◌, ◌^◌, ◌<◌, Bool, cond, not, ◌&&◌, ℤ, pos, negsuc, neg_ℤ, ◌==◌, int_lt, nat_lt}
+use Rattle.std.specs.Prelude.{◌≡◌, ℕ, ◌+◌, ◌-◌, ◌%◌, ◌^◌, ◌<◌, Bool, cond, not, ◌&&◌, ℤ, pos, negsuc, neg_ℤ, Option, Some, None, ◌==◌, int_lt, nat_lt}
 use Rattle.counter.specs.Samples.{line_a}
 use Rattle.counter.specs.Quadrature.{quadrature, both_changed, keeps}
-use Rattle.counter.specs.declared.Turn.{Turn}
 
 abbrev pub is_up : ℤ → Bool
 is_up d = int_lt (pos 0) d
@@ -31,12 +30,9 @@ clocked k before now rises carried =
 unfoldable pub errs : ℕ → ℕ → ℕ → Bool
 errs k before now = nat_lt 4 k && both_changed before now
 
-abbrev pub turn : ℤ → Bool → Turn
-turn d error = record { d = d; error = error }
-
--- what the clock K gives: both
-abbrev pub turned : ℕ → ℕ → ℕ → Bool → ℤ → Turn
-turned k before now rises carried = turn (clocked k before now rises carried) (errs k before now)
+-- what the clock K gives: d, or none where it sees an error, which counts nothing
+abbrev pub turned : ℕ → ℕ → ℕ → Bool → ℤ → Option ℤ
+turned k before now rises carried = cond (errs k before now) None (Some (clocked k before now rises carried))
 
 -- UD reverses the sign
 abbrev pub reversed : Bool → ℤ → ℤ

@@ -1,6 +1,6 @@
 -- Document 01, "Mode word", quadrature: the transitions of the lines A and B between two steps.
 -- Assumes nothing.
-use Rattle.std.specs.Prelude.{ℕ, ◌+◌, ◌-◌, ◌%◌, Bool, cond, not, ◌&&◌, ◌||◌, ℤ, pos, negsuc, ◌==◌}
+use Rattle.std.specs.Prelude.{ℕ, ◌+◌, ◌-◌, ◌%◌, Bool, cond, not, ◌&&◌, ◌||◌, ℤ, pos, negsuc, Option, Some, None, ◌==◌}
 use Rattle.std.specs.Bool.{beq}
 use Rattle.counter.specs.Samples.{line_a, line_b}
 
@@ -17,9 +17,9 @@ quadrature before now =
 abbrev pub both_changed : ℕ → ℕ → Bool
 both_changed before now = not (beq (line_a before) (line_a now)) && not (beq (line_b before) (line_b now))
 
--- the entry of the table for a transition: 2 for an error
-unfoldable pub transition : ℕ → ℕ → ℤ
-transition before now = cond (both_changed before now) (pos 2) (quadrature before now)
+-- the entry of the table for a transition: none for an error
+unfoldable pub transition : ℕ → ℕ → Option ℤ
+transition before now = cond (both_changed before now) None (Some (quadrature before now))
 
 -- which transitions the clock K keeps: 7 all, 6 those where A changes, 5 those between 00 and 10
 abbrev pub keeps : ℕ → ℕ → ℕ → Bool

@@ -1,6 +1,7 @@
 // One channel of the board: its record, and what a step, a start, a capture and a preload make of
 // it. Each function says by an equation which definition of specs/ its result is; none asks
-// anything of a record, so a channel with fields outside their ranges is answered too.
+// anything of a record, so a channel with fields outside their ranges is answered too. What a step
+// calls for each channel is marked to be taken into the board's loop (docs/SPEED.md).
 #![tactic(auto)]
 
 ghost use Rattle.std.specs.Prelude.{◌≡◌, true, ◌==◌};
@@ -38,7 +39,8 @@ const UNROUTED: u32 = ROUTES - 1;
 
 // A channel. `second` says that preload 1 is the selected one; `kept` is A + 2 B + 4 index +
 // 8 ExtIn of the last step; `carry` is -1, 0 or +1; the queue's entries are the first `held`
-// places of the three arrays, the oldest first.
+// places of the three arrays, the oldest first. The three arrays and their length, like the numbers
+// in place of types, are the layout that C sees.
 #[repr(C)]
 #[derive(Clone, Copy)]
 pub struct Channel {
@@ -59,13 +61,6 @@ pub struct Channel {
     pub reasons: [u32; QUEUE],
     pub held: u32,
     pub lost: u32,
-}
-
-// What the clock gives: the difference, and whether the lines A and B made an error.
-#[derive(Clone, Copy)]
-pub struct Turn {
-    pub d: i32,
-    pub error: bool,
 }
 
 // What a channel's lines tell in a step: the difference, the reasons that do not come from the
@@ -96,7 +91,8 @@ pub struct Loaded {
 }
 
 // What a step makes of a channel's small fields, but for ExtOut: `seen` is the count before a
-// preload, which a capture holds, and `caught` the reasons of that capture, 0 for none.
+// preload, which a capture holds, and `caught` the reasons of that capture, 0 for none: they are the
+// masked reasons as `masked` of specs/ gives them, and an `Option` would be a second form of 0.
 #[derive(Clone, Copy)]
 pub struct Next {
     pub count: u32,
@@ -116,30 +112,23 @@ pub struct Capture {
 
 impl Channel {
     // One capture more, stored, or the lost count one higher.
+    #[inline]
     pub fn capture(mut self, count: u32, timestamp: u32, reason: u32) -> Capture
         ensures { result ≡ captured count timestamp reason self }
     {
         let held = self.held;
         let stored = held < queue::ROOM;
         if stored {
-            let counts = self.counts;
-            let timestamps = self.timestamps;
-            let reasons = self.reasons;
-            let c = queue::put(counts, held, count);
-            let t = queue::put(timestamps, held, timestamp);
-            let r = queue::put(reasons, held, reason);
-            self.counts = c;
-            self.timestamps = t;
-            self.reasons = r;
+            self.counts = queue::put(self.counts, held, count);
+            self.timestamps = queue::put(self.timestamps, held, timestamp);
+            self.reasons = queue::put(self.reasons, held, reason);
             self.held = held + 1;
         } else {
-            if self.lost < queue::MOST_LOST {
-                self.lost = self.lost + 1;
-            }
+            self.lost = self.lost.saturating_add(1);
         }
         Capture {
             channel: self,
-            stored: stored,
+            stored,
         }
     }
 
@@ -147,16 +136,10 @@ impl Channel {
     pub fn pop(mut self) -> Channel
         ensures { result ≡ popped self }
     {
-        let counts = self.counts;
-        let timestamps = self.timestamps;
-        let reasons = self.reasons;
-        let c = queue::shift(counts);
-        let t = queue::shift(timestamps);
-        let r = queue::shift(reasons);
-        self.counts = c;
-        self.timestamps = t;
-        self.reasons = r;
-        self.held = words::less_one(self.held);
+        self.counts = queue::shift(self.counts);
+        self.timestamps = queue::shift(self.timestamps);
+        self.reasons = queue::shift(self.reasons);
+        self.held = self.held.saturating_sub(1);
         self
     }
 
@@ -165,8 +148,7 @@ impl Channel {
         ensures { result ≡ preloaded self }
     {
         if stages::allowed(self.mode, self.count) {
-            let count = self.selected();
-            self.count = count;
+            self.count = self.selected();
             self.second = stages::flipped(self.mode, self.second);
             self.armed = stages::armed_by_load(self.mode, self.armed);
         }
@@ -209,18 +191,19 @@ impl Channel {
 
     // What the samples A + 2 B + 4 index + 8 ExtIn tell, with the neighbour's carry and whether the
     // timestamp rises; of a halted channel nothing.
+    #[inline(always)]
     pub fn look(self, now: u32, carried: i32, rises: bool) -> Seen
         ensures { result ≡ look now carried rises self }
     {
         if self.running {
             let armed = stages::armed_by_edge(self.mode, self.armed, self.kept, now);
             let turn = difference::clock(mode::k(self.mode), self.kept, now, rises, carried);
-            let d = difference::reversed(mode::ud(self.mode), turn.d);
+            let d = difference::reversed(mode::ud(self.mode), turn.unwrap_or(0));
             return Seen {
                 d: difference::gate(stages::counts(self.mode, armed, now), d),
-                reasons: stages::edge_reasons(self.kept, now) | (ERROR * words::flag(turn.error)),
+                reasons: stages::edge_reasons(self.kept, now) | (ERROR * u32::from(turn.is_none())),
                 high: samples::index(now),
-                armed: armed,
+                armed,
             };
         }
         Seen {
@@ -286,7 +269,7 @@ impl Channel {
         Next {
             count: l.count,
             seen: k.count,
-            caught: caught,
+            caught,
             carry: k.carry,
             armed: l.armed,
             second: l.second,
@@ -316,6 +299,7 @@ impl Channel {
     }
 
     // One step, from what the lines tell: the next record.
+    #[inline(always)]
     pub fn step(self, now: u32, timestamp: u32, s: Seen) -> Channel
         ensures { result ≡ step now timestamp s self }
     {
@@ -327,14 +311,13 @@ impl Channel {
     pub fn is_sound(self) -> bool
         ensures { result ≡ channel_in_range self }
     {
-        let reasons = self.reasons;
         mode::is_good(self.mode)
             & (self.route < ROUTES)
             & (self.mask < REASONS)
             & (self.kept < SAMPLES)
             & (self.held < queue::LENGTHS)
             & difference::is_carry(self.carry)
-            & queue::are_reasons(reasons)
+            & words::are_below(REASONS, &self.reasons)
     }
 
     // A channel handed in: a field outside its range counts as its value at reset.
@@ -346,9 +329,7 @@ impl Channel {
         self.mask = words::below(REASONS, 0, self.mask);
         self.kept = words::below(SAMPLES, 0, self.kept);
         self.carry = difference::in_carry(self.carry);
-        let reasons = self.reasons;
-        let r = queue::in_reasons(reasons);
-        self.reasons = r;
+        self.reasons = self.reasons.map(|r| words::below(REASONS, 0, r));
         self.held = words::below(queue::LENGTHS, 0, self.held);
         self
     }

@@ -1,4 +1,7 @@
-// The fields of the mode word, by their bits.
+// The fields of the mode word, by their bits. The kinds XS, K, TD, TE, OM and IM stay numbers: each
+// definition compares the number that the mode word is described by, and a record with a number that
+// no mode write takes is answered too, so enums would need a second list and an arm for the rest. Each
+// bit has a function of its definition's name: by one function of the bit its callers would say numbers.
 ghost use Rattle.std.specs.Prelude.{◌≡◌, ◌+◌, ◌<◌};
 ghost use Rattle.words.specs.Bits.{word};
 ghost use Rattle.words.specs.Range.{or_reset};
@@ -40,7 +43,7 @@ pub fn tp(m: u32, i: u32) -> bool
     requires { i < 32 }
     ensures { result ≡ TP m i }
 {
-    (m >> i) % 2 == 1
+    words::bit_at(m, i)
 }
 
 // The bits 11 to 15 of TP, those of the reasons 0 to 4, as one number.
@@ -54,7 +57,7 @@ pub fn tp_reasons(m: u32) -> u32
 pub fn op(m: u32) -> bool
     ensures { result ≡ OP m }
 {
-    (m >> 17) % 2 == 1
+    words::bit_at(m, 17)
 }
 
 // What ExtOut shows.
@@ -68,21 +71,21 @@ pub fn om(m: u32) -> u32
 pub fn bp(m: u32) -> bool
     ensures { result ≡ BP m }
 {
-    (m >> 21) % 2 == 1
+    words::bit_at(m, 21)
 }
 
 // The difference's sign is reversed.
 pub fn ud(m: u32) -> bool
     ensures { result ≡ UD m }
 {
-    (m >> 22) % 2 == 1
+    words::bit_at(m, 22)
 }
 
 // A preload only at count 0.
 pub fn nr(m: u32) -> bool
     ensures { result ≡ NR m }
 {
-    (m >> 23) % 2 == 1
+    words::bit_at(m, 23)
 }
 
 // What ExtIn gates.
@@ -96,7 +99,7 @@ pub fn im(m: u32) -> u32
 pub fn ip(m: u32) -> bool
     ensures { result ≡ IP m }
 {
-    (m >> 27) % 2 == 1
+    words::bit_at(m, 27)
 }
 
 // A mode write takes the word.
@@ -106,7 +109,8 @@ pub fn is_good(m: u32) -> bool
     (m < WORDS) & (te(m) < 3) & (td(m) < 3) & (im(m) < 3) & (om(m) < 5)
 }
 
-// A mode word handed in: one that a mode write refuses counts as 0.
+// A mode word handed in: one that a mode write refuses counts as 0. A test of its own, as for a carry
+// or an interval: one function for the three would take the test as a closure, in place of one `if`.
 pub fn in_range(m: u32) -> u32
     ensures { result ≡ or_reset good_mode 0 m }
 {

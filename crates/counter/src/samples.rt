@@ -1,30 +1,31 @@
 // The samples of a step, A + 2 B + 4 index + 8 ExtIn: each line, and the index's edges against the
-// samples that the step before kept.
+// samples that the step before kept. A function for each line and edge, as the definitions have them:
+// by one function of the bit its callers would say numbers.
 ghost use Rattle.std.specs.Prelude.{◌≡◌};
 ghost use Rattle.counter.specs.Samples.{line_a, line_b, index, extin, index_rises, index_falls};
 
 pub fn line_a(s: u32) -> bool
     ensures { result ≡ line_a s }
 {
-    s % 2 == 1
+    words::bit_at(s, 0)
 }
 
 pub fn line_b(s: u32) -> bool
     ensures { result ≡ line_b s }
 {
-    (s >> 1) % 2 == 1
+    words::bit_at(s, 1)
 }
 
 pub fn index(s: u32) -> bool
     ensures { result ≡ index s }
 {
-    (s >> 2) % 2 == 1
+    words::bit_at(s, 2)
 }
 
 pub fn extin(s: u32) -> bool
     ensures { result ≡ extin s }
 {
-    (s >> 3) % 2 == 1
+    words::bit_at(s, 3)
 }
 
 pub fn index_rises(kept: u32, now: u32) -> bool

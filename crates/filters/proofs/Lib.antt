@@ -1,3 +1,4 @@
 pub mod Numbers
 pub mod PlaneLaws
 pub mod StepLaws
+pub mod Folds

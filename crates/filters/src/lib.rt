@@ -11,7 +11,7 @@ ghost use Rattle.filters.specs.Filters.{filtered, put_filter, reset_filters};
 // The planes of a number, its bits.
 pub const PLANES: usize = 16;
 
-// The filter of each pin, and for how many steps in a row its raw level has differed from the
+// Two arrays of planes, as C lays them out: the filter of each pin, and for how many steps in a row its raw level has differed from the
 // filtered one.
 #[repr(C)]
 #[derive(Clone, Copy)]
@@ -32,47 +32,36 @@ fn put_number(x: [u64; PLANES], p: u64, n: u64) -> [u64; PLANES]
     requires { p < 48 }
     ensures { result ≡ put_number p n x }
 {
-    let mut r = x;
-    for j in 0..PLANES {
-        r[j] = words::put(x[j], p, words::bit(n, j as u64));
-    }
-    r
+    std::array::from_fn(|j| words::put(x[j], p, words::bit(n, j as u64)))
 }
 
-// Every plane is 0.
+// Every plane is 0. All are looked at: to end at the first that is not costs more (docs/SPEED.md).
 fn are_zero(x: [u64; PLANES]) -> bool
     ensures { result ≡ every 16 (λ j. eqb (get_or x j 0) 0) }
 {
-    let mut r = true;
-    for j in 0..PLANES {
-        r = r & (x[j] == 0);
-    }
-    r
+    x.iter().fold(true, |zero, &plane| zero & (plane == 0))
 }
 
 // The pins whose number is above 0.
 fn above_zero(x: [u64; PLANES]) -> u64
     ensures { result ≡ word 48 (λ p. ltb 0 (number_at x p)) }
 {
-    let mut r: u64 = 0;
-    for j in 0..PLANES {
-        r = words::either(r, x[j]);
-    }
-    r
+    x.iter()
+        .fold(0, |above, &plane| words::either(above, plane))
 }
 
 // The pins whose number in `x` is below that in `y`: the highest plane in which they differ tells.
 fn below(x: [u64; PLANES], y: [u64; PLANES]) -> u64
     ensures { result ≡ word 48 (λ p. ltb (number_at x p) (number_at y p)) }
 {
-    let mut r: u64 = 0;
-    for j in 0..PLANES {
-        r = words::select(words::differ(x[j], y[j]), y[j], r);
-    }
-    r
+    x.iter().zip(y.iter()).fold(
+        0,
+        |below, (&a, &b)| words::select(words::differ(a, b), b, below),
+    )
 }
 
-// The numbers one higher for the pins of `on`, 0 for the others.
+// The numbers one higher for the pins of `on`, 0 for the others. A loop, since each plane hands its
+// carry on to the next: no law goes through a closure that changes what it holds.
 fn counted(x: [u64; PLANES], on: u64) -> [u64; PLANES]
     ensures { result ≡ planes (λ p. cond (bit on p) (number_at x p + 1) 0) }
 {
@@ -88,51 +77,39 @@ fn counted(x: [u64; PLANES], on: u64) -> [u64; PLANES]
 impl Filters {
     // A step of every pin, from the raw levels and the filtered levels before it. Where no pin with
     // a filter differs no pin waits any more, and waits that are 0 already are left (docs/SPEED.md).
-    pub fn step(self, raw: u64, level: u64) -> Filtered
+    pub fn step(mut self, raw: u64, level: u64) -> Filtered
         ensures { result ≡ filtered raw level self }
     {
-        let filter = self.filter;
-        let wait = self.wait;
-        let differing = words::both(words::differ(raw, level), above_zero(filter));
+        let differing = words::both(words::differ(raw, level), above_zero(self.filter));
         if differing != 0 {
-            let on = words::both(differing, below(wait, filter));
-            let next = counted(wait, on);
+            let on = words::both(differing, below(self.wait, self.filter));
+            self.wait = counted(self.wait, on);
             return Filtered {
-                filters: Filters {
-                    filter: filter,
-                    wait: next,
-                },
+                filters: self,
                 level: words::select(on, level, raw),
             };
         }
-        if are_zero(wait) {
+        if are_zero(self.wait) {
             return Filtered {
                 filters: self,
                 level: words::cut(raw),
             };
         }
+        self.wait = [0; PLANES];
         Filtered {
-            filters: Filters {
-                filter: filter,
-                wait: [0; PLANES],
-            },
+            filters: self,
             level: words::cut(raw),
         }
     }
 
     // A write of the filter of pin p, which begins its wait afresh.
-    pub fn write(self, p: u64, f: u64) -> Filters
+    pub fn write(mut self, p: u64, f: u64) -> Filters
         requires { p < 48 }
         ensures { result ≡ put_filter p f 0 self }
     {
-        let filter = self.filter;
-        let wait = self.wait;
-        let written = put_number(filter, p, f);
-        let afresh = put_number(wait, p, 0);
-        Filters {
-            filter: written,
-            wait: afresh,
-        }
+        self.filter = put_number(self.filter, p, f);
+        self.wait = put_number(self.wait, p, 0);
+        self
     }
 }
 

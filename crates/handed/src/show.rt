@@ -1,142 +1,144 @@
 // What is written: an answer, and the fields of a board that have a range.
-use board::Outcome;
+use board::{Board, Outcome};
 use calls::Answer;
 use control::Core;
 use counter::Channel;
 use ports::{Pins, Virtuals};
+use std::cmp::Ordering;
+use std::fmt::{self, Display, Formatter, Write};
 
-// Bytes to standard output.
-pub fn text(rt: HostRuntime, t: &[u8]) {
-    let _ = rt.write_all(t);
-}
+// A part of a board, written in whole lines.
+#[derive(Clone, Copy)]
+pub struct Lines<'a, T>(pub &'a T);
 
-// A name and a number.
-pub fn number(rt: HostRuntime, name: &[u8], n: u64) {
-    text(rt, name);
-    let _ = print!(rt; "{n}");
-}
-
-// The same of a u32.
-pub fn small(rt: HostRuntime, name: &[u8], n: u32) {
-    number(rt, name, n as u64);
-}
-
-// A name and the sign of a number.
-fn signed(rt: HostRuntime, name: &[u8], d: i32) {
-    text(rt, name);
-    if d < 0 {
-        text(rt, b"below 0");
-    } else {
-        if 0 < d {
-            text(rt, b"above 0")
-        } else {
-            text(rt, b"0")
-        }
+// The sign of a number in words.
+fn sign(d: i32) -> &'static str {
+    match d.cmp(&0) {
+        Ordering::Less => "below 0",
+        Ordering::Equal => "0",
+        Ordering::Greater => "above 0",
     }
 }
 
 // The fields of a channel that have a range, of the reasons the first and the last, its count and
 // its lost count.
-pub fn show_channel(rt: HostRuntime, c: Channel) {
-    small(rt, b"  mode ", c.mode);
-    small(rt, b" route ", c.route);
-    small(rt, b" mask ", c.mask);
-    small(rt, b" count ", c.count);
-    small(rt, b" kept ", c.kept);
-    signed(rt, b" carry ", c.carry);
-    small(rt, b" held ", c.held);
-    small(rt, b" lost ", c.lost);
-    small(rt, b" reasons ", c.reasons[0]);
-    small(rt, b" ", c.reasons[15]);
-    text(rt, b"\n");
+impl Display for Lines<'_, Channel> {
+    fn fmt<W: fmt::Write>(&self, f: &mut Formatter<W>) -> fmt::Result {
+        let c = self.0;
+        write!(
+            f,
+            "  mode {} route {} mask {} count {} kept {}",
+            c.mode, c.route, c.mask, c.count, c.kept
+        )?;
+        writeln!(
+            f,
+            " carry {} held {} lost {} reasons {} {}",
+            sign(c.carry),
+            c.held,
+            c.lost,
+            c.reasons[0],
+            c.reasons[15]
+        )
+    }
 }
 
-// The planes that are not 0, each behind its number; without any, nothing.
-fn show_planes(rt: HostRuntime, name: &[u8], a: [u64; filters::PLANES]) {
-    let mut found = false;
-    for j in 0..filters::PLANES {
-        if a[j] != 0 {
-            if !found {
-                text(rt, name);
-                found = true;
-            }
-            small(rt, b" ", j as u32);
-            number(rt, b":", a[j]);
+// Planes under a name.
+#[derive(Clone, Copy)]
+struct Planes<'a> {
+    name: &'a str,
+    words: &'a [u64],
+}
+
+// Those that are not 0, each behind its number; without any, nothing.
+impl Display for Planes<'_> {
+    fn fmt<W: fmt::Write>(&self, f: &mut Formatter<W>) -> fmt::Result {
+        if self.words.iter().all(|word| *word == 0) {
+            return Ok(());
         }
-    }
-    if found {
-        text(rt, b"\n");
+        write!(f, "  {}", self.name)?;
+        for (j, word) in self.words.iter().enumerate() {
+            if *word != 0 {
+                write!(f, " {j}:{word}")?;
+            }
+        }
+        writeln!(f)
     }
 }
 
 // The pins' words.
-pub fn show_pins(rt: HostRuntime, x: Pins) {
-    number(rt, b"  level ", x.level);
-    number(rt, b" driven ", x.driven);
-    number(rt, b" own ", x.own);
-    number(rt, b" safedata ", x.safedata);
-    number(rt, b" safeenable ", x.safeenable);
-    number(rt, b" source ", x.source0);
-    number(rt, b" ", x.source1);
-    number(rt, b" ", x.source2);
-    text(rt, b"\n");
-    let f = x.filters;
-    let filter = f.filter;
-    let wait = f.wait;
-    show_planes(rt, b"  filter", filter);
-    show_planes(rt, b"  wait", wait);
+impl Display for Lines<'_, Pins> {
+    fn fmt<W: fmt::Write>(&self, f: &mut Formatter<W>) -> fmt::Result {
+        let x = self.0;
+        write!(
+            f,
+            "  level {} driven {} own {} safedata {} safeenable {}",
+            x.level, x.driven, x.own, x.safedata, x.safeenable
+        )?;
+        writeln!(f, " source {} {} {}", x.source0, x.source1, x.source2)?;
+        let filter = Planes {
+            name: "filter",
+            words: &x.filters.filter,
+        };
+        let wait = Planes {
+            name: "wait",
+            words: &x.filters.wait,
+        };
+        write!(f, "{filter}{wait}")
+    }
 }
 
 // The outputs' words.
-pub fn show_virtuals(rt: HostRuntime, x: Virtuals) {
-    number(rt, b"  outputs ", x.own);
-    number(rt, b" safedata ", x.safedata);
-    number(rt, b" safeenable ", x.safeenable);
-    text(rt, b"\n");
-}
-
-// A name and the numbers of the three stages.
-fn stages(rt: HostRuntime, name: &[u8], a: [u32; control::STAGES]) {
-    small(rt, name, a[0]);
-    small(rt, b" ", a[1]);
-    small(rt, b" ", a[2]);
+impl Display for Lines<'_, Virtuals> {
+    fn fmt<W: fmt::Write>(&self, f: &mut Formatter<W>) -> fmt::Result {
+        let x = self.0;
+        writeln!(
+            f,
+            "  outputs {} safedata {} safeenable {}",
+            x.own, x.safedata, x.safeenable
+        )
+    }
 }
 
 // The board's own part.
-pub fn show_core(rt: HostRuntime, k: Core) {
-    small(rt, b"  prescaler ", k.clock.prescaler);
-    small(rt, b" timestamp ", k.clock.timestamp);
-    small(rt, b" control ", k.safety.control);
-    let d = k.watchdog;
-    let intervals = d.intervals;
-    let rests = d.rests;
-    stages(rt, b" intervals ", intervals);
-    stages(rt, b" rests ", rests);
-    small(rt, b" expired ", d.expired);
-    text(rt, b"\n");
+impl Display for Lines<'_, Core> {
+    fn fmt<W: fmt::Write>(&self, f: &mut Formatter<W>) -> fmt::Result {
+        let k = self.0;
+        let [i, j, l] = k.watchdog.intervals;
+        let [p, q, r] = k.watchdog.rests;
+        write!(
+            f,
+            "  prescaler {} timestamp {} control {}",
+            k.clock.prescaler, k.clock.timestamp, k.safety.control
+        )?;
+        writeln!(
+            f,
+            " intervals {i} {j} {l} rests {p} {q} {r} expired {}",
+            k.watchdog.expired
+        )
+    }
+}
+
+// The board, its channel 0 for all six.
+impl Display for Lines<'_, Board> {
+    fn fmt<W: fmt::Write>(&self, f: &mut Formatter<W>) -> fmt::Result {
+        let b = self.0;
+        write!(f, "{}", Lines(&b.channels[0]))?;
+        write!(f, "{}", Lines(&b.pins))?;
+        write!(f, "{}", Lines(&b.virtuals))?;
+        write!(f, "{}", Lines(&b.core))
+    }
 }
 
 // The four numbers of an answer.
-pub fn show_answer(rt: HostRuntime, name: &[u8], a: Answer) {
-    text(rt, name);
-    small(rt, b": ", a.result);
-    small(rt, b" ", a.value);
-    small(rt, b" ", a.timestamp);
-    small(rt, b" ", a.reason);
-    text(rt, b"\n");
+pub fn show_answer(rt: &impl Print, name: &str, a: Answer) {
+    let _ = println!(rt;
+        "{name}: {} {} {} {}",
+        a.result, a.value, a.timestamp, a.reason
+    );
 }
 
-// The answer and the next board, its channel 0 for all six.
-pub fn show(rt: HostRuntime, name: &[u8], o: Outcome) {
-    let answer = o.answer;
-    show_answer(rt, name, answer);
-    let b = o.board;
-    let c = b.channels[0];
-    let pins = b.pins;
-    let virtuals = b.virtuals;
-    let core = b.core;
-    show_channel(rt, c);
-    show_pins(rt, pins);
-    show_virtuals(rt, virtuals);
-    show_core(rt, core);
+// The answer and the next board.
+pub fn show(rt: &impl Print, name: &str, o: Outcome) {
+    show_answer(rt, name, o.answer);
+    let _ = print!(rt; "{}", Lines(&o.board));
 }

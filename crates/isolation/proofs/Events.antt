@@ -13,7 +13,8 @@ use Rattle.ports.specs.Pins.{WholePin, whole_at}
 use Rattle.ports.specs.Virtuals.{virtual_at}
 use Rattle.ports.specs.declared.Virtual.{Virtual}
 use Rattle.control.specs.declared.Core.{Core}
-use Rattle.calls.specs.Reply.{Reply, refuse}
+use Rattle.calls.specs.Reply.{refuse}
+use Rattle.calls.specs.declared.Reply.{Reply}
 use Rattle.calls.specs.Fields.{is_step, step_fits}
 use Rattle.calls.specs.ChannelCalls.{channel_call}
 use Rattle.calls.specs.PinCalls.{whole_call}

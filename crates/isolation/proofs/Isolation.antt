@@ -6,7 +6,7 @@ use Rattle.counter.specs.declared.Channel.{Channel}
 use Rattle.ports.specs.Pins.{WholePin}
 use Rattle.ports.specs.Virtuals.{virtual_level}
 use Rattle.ports.specs.declared.Virtual.{Virtual}
-use Rattle.calls.specs.Reply.{Reply}
+use Rattle.calls.specs.declared.Reply.{Reply}
 use Rattle.calls.specs.declared.Event.{Event}
 use Rattle.board.specs.Respond.{respond}
 use Rattle.board.specs.Handed.{reset_board, applied}

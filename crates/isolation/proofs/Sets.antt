@@ -12,7 +12,8 @@ use Rattle.counter.proofs.Settings.{SameSettings, captured-same, popped-same, pr
 use Rattle.ports.specs.Pins.{WholePin}
 use Rattle.ports.specs.declared.Pin.{Pin}
 use Rattle.control.specs.declared.Core.{Core}
-use Rattle.calls.specs.Reply.{Reply, reply, refuse, accept}
+use Rattle.calls.specs.Reply.{reply, refuse, accept}
+use Rattle.calls.specs.declared.Reply.{Reply}
 use Rattle.calls.specs.ChannelCalls.{mode_write, route_write, snapshot_read, channel_call}
 use Rattle.calls.specs.PinCalls.{pin_call, whole_call}
 use Rattle.calls.specs.BoardCalls.{interval_write, board_call}

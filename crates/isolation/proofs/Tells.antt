@@ -15,7 +15,8 @@ use Rattle.ports.proofs.Wholes.{source-held}
 use Rattle.ports.specs.Pins.{pin_at, WholePin, whole_at, sensed, driven, reset_pins}
 use Rattle.control.specs.Safety.{guarded}
 use Rattle.control.specs.Whole.{reset_core}
-use Rattle.calls.specs.Reply.{Reply, refuse}
+use Rattle.calls.specs.Reply.{refuse}
+use Rattle.calls.specs.declared.Reply.{Reply}
 use Rattle.calls.specs.Fields.{is_step, fits}
 use Rattle.calls.specs.ChannelCalls.{channel_call}
 use Rattle.calls.specs.PinCalls.{whole_call}

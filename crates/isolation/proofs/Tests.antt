@@ -11,7 +11,7 @@ use borrow.Author.Tests.{eq-eqb, eqb-true, lt-ltb, ltb-true}
 use Rattle.words.specs.Bits.{every}
 use Rattle.counter.specs.Mode.{XS, K}
 use Rattle.control.specs.Safety.{pin_triggers}
-use Rattle.calls.specs.Reply.{Reply}
+use Rattle.calls.specs.declared.Reply.{Reply}
 use Rattle.calls.specs.declared.Answer.{Answer}
 use Rattle.board.specs.Handed.{reset_board}
 use Rattle.reach.proofs.Cases.{asked}

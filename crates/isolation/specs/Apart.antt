@@ -5,7 +5,8 @@ use Rattle.std.specs.Prelude.{◌≡◌, true, not, cond, ◌&&◌, List, [], �
 use Rattle.words.specs.Bits.{every}
 use Rattle.counter.specs.Setters.{with_load}
 use Rattle.counter.specs.declared.Channel.{Channel}
-use Rattle.calls.specs.Reply.{Reply, reply, number}
+use Rattle.calls.specs.Reply.{reply, number}
+use Rattle.calls.specs.declared.Reply.{Reply}
 use Rattle.calls.specs.Events.{call, lines}
 use Rattle.calls.specs.declared.Event.{Event}
 use Rattle.calls.specs.declared.Answer.{Answer}

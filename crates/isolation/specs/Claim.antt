@@ -1,7 +1,7 @@
 -- Demand 3: one claim about two whole lists, each from a reset board of its own.
 -- Assumes nothing.
 use Rattle.std.specs.Prelude.{◌≡◌, List}
-use Rattle.calls.specs.Reply.{Reply}
+use Rattle.calls.specs.declared.Reply.{Reply}
 use Rattle.calls.specs.declared.Event.{Event}
 use Rattle.calls.specs.declared.Answer.{Answer}
 use Rattle.board.specs.Handed.{reset_board, applied}

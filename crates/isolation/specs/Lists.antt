@@ -1,7 +1,7 @@
 -- The answers that the events of a remainder got in the whole list, and what holds after every event of a list, on any machine.
 -- Assumes nothing.
 use Rattle.std.specs.Prelude.{Bool, cond, List, [], ◌∷◌, map}
-use Rattle.calls.specs.Reply.{Reply}
+use Rattle.calls.specs.declared.Reply.{Reply}
 use Rattle.calls.specs.declared.Answer.{Answer}
 use Rattle.board.specs.Runs.{replies}
 

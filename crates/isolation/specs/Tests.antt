@@ -4,7 +4,7 @@ use Rattle.std.specs.Prelude.{◌≡◌, Bool, true, not, ◌&&◌, ◌||◌, Li
 use Rattle.words.specs.Bits.{every}
 use Rattle.counter.specs.Mode.{XS, K}
 use Rattle.control.specs.Safety.{pin_triggers}
-use Rattle.calls.specs.Reply.{Reply}
+use Rattle.calls.specs.declared.Reply.{Reply}
 use Rattle.calls.specs.declared.Answer.{Answer}
 use Rattle.calls.specs.declared.Event.{Event}
 use Rattle.board.specs.Inputs.{neighbour}

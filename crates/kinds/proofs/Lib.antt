@@ -1,2 +1,2 @@
-pub mod Row
+pub mod Table
 pub mod Names

@@ -1,7 +1,7 @@
 -- Laws of the names: each is found again, and each is one word.
 -- Assumes nothing.
 use mathlib.Core.Path.{◌≡◌, refl}
-use mathlib.Core.Bool.{Bool, true, false, not, ◌&&◌, and-eq-true_iff}
+use mathlib.Core.Bool.{Bool, true, false, cond, not, ◌&&◌, and-eq-true_iff}
 use mathlib.Core.List.{List, [], ◌∷◌}
 use Prim.Native.Nat.{ℕ, zero, suc, ◌+◌, ◌≤◌, ◌<◌}
 use native.Mathlib.Nat.{le_of_suc-le-suc, not-suc-le-zero}
@@ -14,12 +14,17 @@ use borrow.Author.Tests.{ltb-true, leb-true, not-true}
 use Rattle.words.specs.Table.{tab}
 use Rattle.words.proofs.Cases.{either}
 use Rattle.scan.specs.Bytes.{ascii, same}
+use Rattle.std.specs.Prelude.{Some, None}
+use Rattle.scan.specs.declared.Between.TheVariants.{Words}
 use Rattle.scan.specs.Parts.{between, over}
 use Rattle.scan.specs.Numbers.{worth, extended, figure, number}
 use Rattle.scan.proofs.Numbers.{figure-none}
+use Rattle.text.specs.Decimal.{digits, decimal}
+use Rattle.text.proofs.Decimal.{decimal-below}
+use Rattle.kinds.specs.declared.Input.TheVariants.{Line, Pin}
 use Rattle.kinds.specs.declared.Named.{Named}
 use Rattle.kinds.specs.declared.Named.TheVariants.{Kind, Raw}
-use Rattle.kinds.specs.Names.{kinds, names, name, raw_name, kind_in, kind_of, letter, no_input, input_at, input_of, input_name, pin_name}
+use Rattle.kinds.specs.Names.{kinds, names, name, raw_name, kind_in, kind_of, letter, input_at, input_of, input_name, pin_name}
 use Rattle.words.proofs.Tables.{tab-at}
 
 -- ---- the search for a name, kind by kind
@@ -29,7 +34,7 @@ unfolding names
 names-length = refl
 
 -- the word is the name of kind k
-pub kind-here : (w : List ℕ) (k : ℕ) → k < kinds → same w (name k) ≡ true → kind_in w (drop k names) k ≡ Kind k
+pub kind-here : (w : List ℕ) (k : ℕ) → k < kinds → same w (name k) ≡ true → kind_in w (drop k names) k ≡ Some (Kind k)
 unfolding kind_in name
 kind-here w k h e = let b : k < length names = omega (arith, names-length) in rw (drop-cons names k [], e)
 
@@ -41,34 +46,45 @@ kind-next w k h e = let b : k < length names = omega (arith, names-length) in rw
 -- ---- inputs
 
 -- a word of no bytes
-pub input_none : (w : List ℕ) → length w ≡ 0 → input_of w ≡ no_input
+pub input_none : (w : List ℕ) → length w ≡ 0 → input_of w ≡ None
 unfolding input_of
 input_none w h = rw (figure-none 10 (drop 1 w) (simp length-drop (omega arith)))
 
-pub input-named : (i : ℕ) → i < 18 → input_of (input_name i) ≡ record { good = true; pin = false; place = i }
+-- a letter is one of three
+pub letter-below : (b k : ℕ) → letter b ≡ Some k → k < 3
+unfolding letter
+letter-below b k e = by (eqb b 97) (eqb b 98) (eqb b 120) e
+  where
+    by : (r s t : Bool) → cond r (Some 0) (cond s (Some 1) (cond t (Some 2) None)) ≡ Some k → k < 3
+    by true s t h = let i : ◌≡◌ {A = ℕ} 0 k = cc in omega arith
+    by false true t h = let i : ◌≡◌ {A = ℕ} 1 k = cc in omega arith
+    by false false true h = let i : ◌≡◌ {A = ℕ} 2 k = cc in omega arith
+    by false false false h = cc
+
+pub input-named : (i : ℕ) → i < 18 → input_of (input_name i) ≡ Some (Line i)
 unfolding input_of input_name input_at letter figure extended worth over tab
-input-named = tab-at 18 (λ i. input_of (input_name i)) (λ i. record { good = true; pin = false; place = i }) refl
+input-named = tab-at 18 (λ i. input_of (input_name i)) (λ i. Some (Line i)) refl
 
-pub pin-named : (i : ℕ) → i < 48 → input_of (pin_name i) ≡ record { good = true; pin = true; place = i }
+pub pin-named : (i : ℕ) → i < 48 → input_of (pin_name i) ≡ Some (Pin i)
 unfolding input_of pin_name input_at letter figure extended worth over tab
-pin-named = tab-at 48 (λ i. input_of (pin_name i)) (λ i. record { good = true; pin = true; place = i }) refl
+pin-named = tab-at 48 (λ i. input_of (pin_name i)) (λ i. Some (Pin i)) refl
 
-pub input-no-number : (i : ℕ) → i < 18 → (number (input_name i)).good ≡ false
+pub input-no-number : (i : ℕ) → i < 18 → number (input_name i) ≡ None
 unfolding number input_name figure extended worth over same ascii tab
-input-no-number = tab-at 18 (λ i. (number (input_name i)).good) (λ i. false) refl
+input-no-number = tab-at 18 (λ i. number (input_name i)) (λ i. None) refl
 
-pub pin-no-number : (i : ℕ) → i < 48 → (number (pin_name i)).good ≡ false
+pub pin-no-number : (i : ℕ) → i < 48 → number (pin_name i) ≡ None
 unfolding number pin_name figure extended worth over same ascii tab
-pin-no-number = tab-at 48 (λ i. (number (pin_name i)).good) (λ i. false) refl
+pin-no-number = tab-at 48 (λ i. number (pin_name i)) (λ i. None) refl
 
 -- ---- words: no byte of which separates words or starts a comment
 
 abbrev pub Word : List ℕ → Type 0
-Word l = (j : ℕ) → j < length l → (between true (get_or l j 0) ≡ false) × (eqb (get_or l j 0) 35 ≡ false)
+Word l = (j : ℕ) → j < length l → (between Words (get_or l j 0) ≡ false) × (eqb (get_or l j 0) 35 ≡ false)
 
 -- the test of one byte, and of all
 abbrev inner : ℕ → Bool
-inner b = not (between true b) && not (eqb b 35)
+inner b = not (between Words b) && not (eqb b 35)
 
 unfoldable plain : List ℕ → Bool
 plain [] = true
@@ -78,7 +94,7 @@ word : (l : List ℕ) → plain l ≡ true → Word l
 unfolding plain
 word [] h j k = absurd (not-suc-le-zero k)
 word (b ∷ l) h zero k =
-    let t = (and-eq-true_iff (not (between true b)) (not (eqb b 35))).0 ((and-eq-true_iff (inner b) (plain l)).0 h).0 in
+    let t = (and-eq-true_iff (not (between Words b)) (not (eqb b 35))).0 ((and-eq-true_iff (inner b) (plain l)).0 h).0 in
     (not-true _ t.0, not-true _ t.1)
 word (b ∷ l) h (suc j) k = word l ((and-eq-true_iff (inner b) (plain l)).0 h).1 j (le_of_suc-le-suc k)
 
@@ -104,6 +120,19 @@ pub pin-length : (i : ℕ) → length (pin_name i) ≤ 3
 unfolding pin_name
 pin-length i = either (λ (l : List ℕ). suc (length l) ≤ 3) (ltb i 10) (omega arith) (omega arith)
 
+-- a pin is named by its number in decimal
+pub pin_named : (i : ℕ) → i < 48 → pin_name i ≡ 112 ∷ decimal i
+unfolding pin_name decimal digits tab
+pin_named = tab-at 48 pin_name (λ i. 112 ∷ decimal i) refl
+
+pub length_pin : (i : ℕ) → i < 48 → length (decimal i) ≤ 2
+length_pin i h = decimal-below 1 i (omega arith)
+
+-- the letters of a channel's inputs
+pub input_letter : (k : ℕ) → k < 3 → get_or (97 ∷ 98 ∷ 120 ∷ []) k 0 ≡ cond (eqb k 2) 120 (97 + k)
+unfolding tab
+input_letter = tab-at 3 (λ k. get_or (97 ∷ 98 ∷ 120 ∷ []) k 0) (λ k. cond (eqb k 2) 120 (97 + k)) refl
+
 pub pin-some : (i : ℕ) → 0 < length (pin_name i)
 unfolding pin_name
 pin-some i = omega arith
@@ -115,7 +144,7 @@ pub record First (w : List ℕ) (n : Named) : Type 0 where
   pub word : Word w
   pub some : 0 < length w
   pub short : length w ≤ 25
-  pub names : kind_of w ≡ n
+  pub names : kind_of w ≡ Some n
 
 pub first_kind : (k : ℕ) → k < kinds → First (name k) (Kind k)
 unfolding plain between kind_of kind_in name names raw_name number figure extended worth over same ascii tab
@@ -123,7 +152,7 @@ first_kind k h = record {
   word = word (name k) (tab-at kinds (λ k. plain (name k)) (λ k. true) refl k h);
   some = ltb-true _ _ (tab-at kinds (λ k. ltb 0 (length (name k))) (λ k. true) refl k h);
   short = name-length k h;
-  names = tab-at kinds (λ k. kind_of (name k)) Kind refl k h;
+  names = tab-at kinds (λ k. kind_of (name k)) (λ k. Some (Kind k)) refl k h;
 }
 
 pub first-raw : First raw_name Raw

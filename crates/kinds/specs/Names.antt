@@ -1,11 +1,13 @@
 -- docs/TEXT.md, "Kinds" and "Inputs": the names of the kinds, the fields that each has, the names of a step's inputs.
 -- Assumes nothing.
-use Rattle.std.specs.Prelude.{true, false, cond, ◌&&◌, List, [], ◌∷◌, ℕ, suc, ◌+◌, ◌*◌, ◌/◌, ◌%◌, eqb, ltb, get_or, drop}
+use Rattle.std.specs.Prelude.{Option, Some, None, cond, ◌&&◌, List, [], ◌∷◌, ℕ, suc, ◌+◌, ◌*◌, ◌/◌, ◌%◌, eqb, ltb, get_or, drop}
 use Rattle.scan.specs.Bytes.{ascii, same}
 use Rattle.scan.specs.Numbers.{figure, number}
+use Rattle.std.specs.Option.{option_map_or, option_and_then}
 use Rattle.kinds.specs.declared.Input.{Input}
+use Rattle.kinds.specs.declared.Input.TheVariants.{Line, Pin}
 use Rattle.kinds.specs.declared.Named.{Named}
-use Rattle.kinds.specs.declared.Named.TheVariants.{Kind, Raw, Nothing}
+use Rattle.kinds.specs.declared.Named.TheVariants.{Kind, Raw}
 
 -- ---- kinds
 
@@ -36,15 +38,15 @@ unfoldable pub raw_name : List ℕ
 raw_name = ascii "raw"
 
 -- the kind whose name is w, where a list has the names from kind k on
-unfoldable pub kind_in : List ℕ → List (List ℕ) → ℕ → Named
-kind_in w [] k = Nothing
-kind_in w (n ∷ l) k = cond (same w n) (Kind k) (kind_in w l (suc k))
+unfoldable pub kind_in : List ℕ → List (List ℕ) → ℕ → Option Named
+kind_in w [] k = None
+kind_in w (n ∷ l) k = cond (same w n) (Some (Kind k)) (kind_in w l (suc k))
 
 -- what the first word of a line names: a kind by its number or its name, or six fields as they are
-unfoldable pub kind_of : List ℕ → Named
+unfoldable pub kind_of : List ℕ → Option Named
 kind_of w =
-    cond (number w).good (cond (ltb (number w).value kinds) (Kind (number w).value) Nothing)
-    (cond (same w raw_name) Raw (kind_in w names 0))
+    option_map_or (λ n. cond (ltb n kinds) (Some (Kind n)) None) (number w)
+    (cond (same w raw_name) (Some Raw) (kind_in w names 0))
 
 -- ---- fields
 
@@ -75,25 +77,19 @@ raw_fields = 0o654321
 
 -- ---- inputs
 
-abbrev pub no_input : Input
-no_input = record { good = false; pin = false; place = 0 }
-
 -- a, b and x are A, B and IX of a channel
-unfoldable pub letter : ℕ → ℕ
-letter b = cond (eqb b 97) 0 (cond (eqb b 98) 1 (cond (eqb b 120) 2 3))
+unfoldable pub letter : ℕ → Option ℕ
+letter b = cond (eqb b 97) (Some 0) (cond (eqb b 98) (Some 1) (cond (eqb b 120) (Some 2) None))
 
 -- the input that a letter and a number name: of channel c at bit 3 c, 3 c + 1 or 3 c + 2 of V; p and a pin at that bit of W
-unfoldable pub input_at : ℕ → ℕ → Input
+unfoldable pub input_at : ℕ → ℕ → Option Input
 input_at b n =
-    cond (ltb (letter b) 3 && ltb n 6)
-    (record { good = true; pin = false; place = 3 * n + letter b })
-    (cond (eqb b 112 && ltb n 48)
-    (record { good = true; pin = true; place = n })
-    no_input)
+    option_map_or (λ k. cond (ltb n 6) (Some (Line (3 * n + k))) None) (letter b)
+    (cond (eqb b 112 && ltb n 48) (Some (Pin n)) None)
 
 -- the input that a word names
-unfoldable pub input_of : List ℕ → Input
-input_of w = cond (figure 10 (drop 1 w)).good (input_at (get_or w 0 0) (figure 10 (drop 1 w)).value) no_input
+unfoldable pub input_of : List ℕ → Option Input
+input_of w = option_and_then (input_at (get_or w 0 0)) (figure 10 (drop 1 w))
 
 -- the name of the input at bit i of V, and of W
 unfoldable pub input_name : ℕ → List ℕ

@@ -131,31 +131,17 @@ fn mended(s: u64, s0: u64, s1: u64, s2: u64) -> u64
 fn pin_word(reset: u64, w: u64) -> u64
     ensures { result ≡ or_reset is_pin_word reset w }
 {
-    words::word_below(words::WORDS, reset, w)
+    words::below(words::WORDS, reset, w)
 }
 
 // Planes handed in.
 fn pin_words(x: [u64; PLANES]) -> [u64; PLANES]
     ensures { result ≡ all_or_reset is_pin_word 0 16 x }
 {
-    let mut r = x;
-    for j in 0..PLANES {
-        r[j] = pin_word(0, x[j]);
-    }
-    r
+    x.map(|w| pin_word(0, w))
 }
 
-// Every plane is in its range.
-fn are_pin_words(x: [u64; PLANES]) -> bool
-    ensures { result ≡ all_good is_pin_word 16 x }
-{
-    let mut sound = true;
-    for j in 0..PLANES {
-        sound = sound & (x[j] < words::WORDS);
-    }
-    sound
-}
-
+// The bounds of a pin's and an output's number are clauses: what calls checks first is a number of an event.
 impl Pins {
     // Pin p's own record.
     pub fn at(self, p: u64) -> Pin
@@ -181,8 +167,7 @@ impl Pins {
         requires { p < 48 }
         ensures { result ≡ put_pin p q self }
     {
-        let s = q.source as u64;
-        let filters = self.filters;
+        let s = u64::from(q.source);
         Pins {
             level: words::put(self.level, p, q.level),
             driven: words::put(self.driven, p, q.driven),
@@ -192,7 +177,7 @@ impl Pins {
             source0: words::put(self.source0, p, words::bit(s, 0)),
             source1: words::put(self.source1, p, words::bit(s, 1)),
             source2: words::put(self.source2, p, words::bit(s, 2)),
-            filters: filters,
+            filters: self.filters,
         }
     }
 
@@ -201,9 +186,7 @@ impl Pins {
         requires { p < 48 }
         ensures { result ≡ with_filters (put_filter p f 0 self.filters) self }
     {
-        let before = self.filters;
-        let after = before.write(p, f as u64);
-        self.filters = after;
+        self.filters = self.filters.write(p, u64::from(f));
         self
     }
 
@@ -213,10 +196,8 @@ impl Pins {
         ensures { result ≡ sensed w self }
     {
         let raw = words::either(w, self.driven);
-        let before = self.filters;
-        let next = before.step(raw, self.level);
-        let after = next.filters;
-        self.filters = after;
+        let next = self.filters.step(raw, self.level);
+        self.filters = next.filters;
         self.level = next.level;
         self
     }
@@ -234,9 +215,6 @@ impl Pins {
     pub fn is_sound(self) -> bool
         ensures { result ≡ pins_in_range self }
     {
-        let filters = self.filters;
-        let filter = filters.filter;
-        let wait = filters.wait;
         (self.level < words::WORDS)
             & (self.driven < words::WORDS)
             & (self.own < words::WORDS)
@@ -246,8 +224,8 @@ impl Pins {
             & (self.source1 < words::WORDS)
             & (self.source2 < words::WORDS)
             & (words::both(words::both(self.source0, self.source1), self.source2) == 0)
-            & are_pin_words(filter)
-            & are_pin_words(wait)
+            & words::are_below(words::WORDS, &self.filters.filter)
+            & words::are_below(words::WORDS, &self.filters.wait)
     }
 
     // Pins handed in: a word or a plane outside its range counts as at reset, then a source number 7
@@ -255,9 +233,6 @@ impl Pins {
     pub fn repair(self) -> Pins
         ensures { result ≡ repaired_pins self }
     {
-        let filters = self.filters;
-        let filter = filters.filter;
-        let wait = filters.wait;
         let s0 = pin_word(0, self.source0);
         let s1 = pin_word(0, self.source1);
         let s2 = pin_word(0, self.source2);
@@ -271,8 +246,8 @@ impl Pins {
             source1: mended(s1, s0, s1, s2),
             source2: mended(s2, s0, s1, s2),
             filters: Filters {
-                filter: pin_words(filter),
-                wait: pin_words(wait),
+                filter: pin_words(self.filters.filter),
+                wait: pin_words(self.filters.wait),
             },
         }
     }
@@ -301,13 +276,6 @@ fn put_virtual_bit(w: u64, o: u64, t: bool) -> u64
     ensures { result ≡ put_bit 6 o t w }
 {
     words::put(w, o, t) % OUTPUTS
-}
-
-// A word of the outputs handed in.
-fn output_word(reset: u64, w: u64) -> u64
-    ensures { result ≡ or_reset is_output_word reset w }
-{
-    words::word_below(OUTPUTS, reset, w)
 }
 
 impl Virtuals {
@@ -354,9 +322,9 @@ impl Virtuals {
         ensures { result ≡ repaired_virtuals self }
     {
         Virtuals {
-            own: output_word(0, self.own),
-            safedata: output_word(0, self.safedata),
-            safeenable: output_word(ALL_OUTPUTS, self.safeenable),
+            own: words::below(OUTPUTS, 0, self.own),
+            safedata: words::below(OUTPUTS, 0, self.safedata),
+            safeenable: words::below(OUTPUTS, ALL_OUTPUTS, self.safeenable),
         }
     }
 }
@@ -378,11 +346,9 @@ pub fn route_level(levels: u64, virtuals: u64, r: u64) -> bool
 {
     if r < PINS {
         words::bit(levels, r)
+    } else if r < ROUTED {
+        words::bit(virtuals, r - PINS)
     } else {
-        if r < ROUTED {
-            words::bit(virtuals, r - PINS)
-        } else {
-            false
-        }
+        false
     }
 }

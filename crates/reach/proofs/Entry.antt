@@ -3,7 +3,8 @@
 use mathlib.Core.Path.{◌≡◌, refl, sym}
 use mathlib.Core.Bool.{true}
 use lib.Dec.{eqb}
-use Rattle.calls.specs.Reply.{Reply, reply}
+use Rattle.calls.specs.Reply.{reply}
+use Rattle.calls.specs.declared.Reply.{Reply}
 use Rattle.calls.specs.declared.Event.{Event}
 use Rattle.board.specs.Respond.{respond}
 use Rattle.board.specs.Handed.{in_range, kept, applied}

@@ -17,7 +17,8 @@ use Rattle.counter.specs.declared.Channel.{Channel}
 use Rattle.counter.proofs.Same.{ChannelInRange}
 use Rattle.ports.specs.Pins.{whole_at, put_whole}
 use Rattle.ports.specs.Virtuals.{virtual_at, put_virtual, routed}
-use Rattle.calls.specs.Reply.{Reply, refuse}
+use Rattle.calls.specs.Reply.{refuse}
+use Rattle.calls.specs.declared.Reply.{Reply}
 use Rattle.calls.specs.Fields.{is_step, fits}
 use Rattle.calls.specs.declared.Event.{Event}
 use Rattle.board.specs.Inputs.{channel_in, neighbour, index_of, samples_of, inputs_of, channel_next, all_next}

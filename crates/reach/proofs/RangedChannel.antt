@@ -10,7 +10,8 @@ use Rattle.counter.specs.Preload.{allowed, preloaded, started}
 use Rattle.counter.specs.Repair.{is_route, is_reasons}
 use Rattle.counter.specs.declared.Channel.{Channel}
 use Rattle.counter.proofs.Same.{ChannelInRange}
-use Rattle.calls.specs.Reply.{Reply, refuse, accept}
+use Rattle.calls.specs.Reply.{refuse, accept}
+use Rattle.calls.specs.declared.Reply.{Reply}
 use Rattle.calls.specs.Fields.{limits, limit, fits}
 use Rattle.calls.specs.ChannelCalls.{mode_write, route_write, mask_write, snapshot_read, channel_call}
 use Rattle.calls.specs.declared.Event.{Event}

@@ -4,7 +4,8 @@ use mathlib.Core.Path.{◌≡◌, sym, ◌∙◌}
 use mathlib.Core.Bool.{true, false, true≢false}
 use Prim.Native.Nat.{ℕ}
 use lib.Dec.{eqb}
-use Rattle.calls.specs.Reply.{Reply, reply, refuse}
+use Rattle.calls.specs.Reply.{reply, refuse}
+use Rattle.calls.specs.declared.Reply.{Reply}
 
 -- In is the range; Same is what an answer other than 0 and 6 leaves, and Lost what an answer 6 leaves
 pub record Sound {X : Type 0} (In Same Lost : X → Type 0) (r : Reply X) : Type 0 where

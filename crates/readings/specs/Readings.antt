@@ -6,7 +6,7 @@ use Rattle.words.specs.Bits.{flag}
 use Rattle.calls.specs.Events.{call, register, lines}
 use Rattle.calls.specs.declared.Event.{Event}
 use Rattle.calls.specs.declared.Answer.{Answer}
-use Rattle.calls.specs.Reply.{Reply}
+use Rattle.calls.specs.declared.Reply.{Reply}
 use Rattle.board.specs.Inputs.{channel_in}
 use Rattle.board.specs.Respond.{respond}
 use Rattle.board.specs.Handed.{reset_board}

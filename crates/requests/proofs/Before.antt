@@ -21,7 +21,8 @@ use Rattle.control.specs.declared.Watchdog.{Watchdog}
 use Rattle.control.specs.declared.Clock.{Clock}
 use Rattle.control.specs.declared.Safety.{Safety}
 use Rattle.control.specs.declared.Core.{Core}
-use Rattle.calls.specs.Reply.{Reply, number, refuse, accept}
+use Rattle.calls.specs.Reply.{number, refuse, accept}
+use Rattle.calls.specs.declared.Reply.{Reply}
 use Rattle.calls.specs.Fields.{is_step, selectors, fits}
 use Rattle.calls.specs.BoardCalls.{interval_write, board_status, board_call}
 use Rattle.calls.specs.declared.Event.{Event}

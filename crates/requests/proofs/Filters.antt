@@ -18,7 +18,8 @@ use Rattle.filters.specs.Filters.{Filtering, followed}
 use Rattle.ports.specs.Pins.{pin_at, whole_at, driven}
 use Rattle.ports.specs.Virtuals.{routed}
 use Rattle.ports.proofs.Wholes.{filtering_of, stored_whole, whole-there, whole-elsewhere, sensed-at}
-use Rattle.calls.specs.Reply.{Reply, number, refuse}
+use Rattle.calls.specs.Reply.{number, refuse}
+use Rattle.calls.specs.declared.Reply.{Reply}
 use Rattle.calls.specs.Fields.{is_step, limits, limit, fits}
 use Rattle.calls.specs.PinCalls.{pins_call, pin_call, whole_call}
 use Rattle.calls.specs.declared.Event.{Event}

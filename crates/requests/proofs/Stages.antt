@@ -13,7 +13,8 @@ use Rattle.words.proofs.Tables.{get_or-tab}
 use Rattle.control.specs.Watchdog.{interval_of, rest_of, has_expired, begun, rests_after, expired_after, watched_in, watched, kicked, switched}
 use Rattle.control.specs.declared.Watchdog.{Watchdog}
 use Rattle.control.specs.declared.Core.{Core}
-use Rattle.calls.specs.Reply.{Reply, refuse}
+use Rattle.calls.specs.Reply.{refuse}
+use Rattle.calls.specs.declared.Reply.{Reply}
 use Rattle.calls.specs.Fields.{is_step, limits, limit, fits}
 use Rattle.calls.specs.BoardCalls.{interval_write, board_call}
 use Rattle.calls.specs.declared.Event.{Event}

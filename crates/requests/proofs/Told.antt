@@ -10,7 +10,8 @@ use borrow.Author.Tests.{ne_eqb, eqb-true, not-true, not-false}
 use Rattle.words.proofs.Cases.{either, paired}
 use Rattle.control.specs.Safety.{repaired_safety}
 use Rattle.control.specs.Whole.{repaired_core}
-use Rattle.calls.specs.Reply.{Reply, reply, refuse, accept}
+use Rattle.calls.specs.Reply.{reply, refuse, accept}
+use Rattle.calls.specs.declared.Reply.{Reply}
 use Rattle.calls.specs.Fields.{is_step, step_fits, fits}
 use Rattle.calls.specs.declared.Event.{Event}
 use Rattle.calls.specs.declared.Answer.{Answer}

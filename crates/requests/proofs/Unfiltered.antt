@@ -16,7 +16,7 @@ use Rattle.ports.specs.Pins.{put_pin, raw_level, raw_levels, sensed, driven, res
 use Rattle.ports.specs.declared.Pins.{Pins}
 use Rattle.ports.proofs.Wholes.{put-own-filter, put-own-pin}
 use Rattle.control.specs.Watchdog.{watched}
-use Rattle.calls.specs.Reply.{Reply}
+use Rattle.calls.specs.declared.Reply.{Reply}
 use Rattle.calls.specs.Fields.{is_step}
 use Rattle.calls.specs.PinCalls.{pins_call, whole_call}
 use Rattle.calls.specs.declared.Event.{Event}

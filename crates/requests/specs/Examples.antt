@@ -1,7 +1,8 @@
 -- Requests 3, 5 and 6: a list for each that tells the machine from the one without the request.
 -- Assumes nothing.
 use Rattle.std.specs.Prelude.{◌≡◌, List, [], ◌∷◌, ◌++◌, map, ℕ, ◌^◌}
-use Rattle.calls.specs.Reply.{Reply, number}
+use Rattle.calls.specs.Reply.{number}
+use Rattle.calls.specs.declared.Reply.{Reply}
 use Rattle.calls.specs.Events.{call, register, lines}
 use Rattle.calls.specs.declared.Event.{Event}
 use Rattle.calls.specs.declared.Answer.{Answer}

@@ -2,7 +2,8 @@
 -- was.
 -- Assumes nothing.
 use Rattle.std.specs.Prelude.{◌≡◌, Bool, true, not, cond, ◌&&◌, ◌↔◌, List, [], ◌∷◌, map, eqb}
-use Rattle.calls.specs.Reply.{Reply, reply, number, accept}
+use Rattle.calls.specs.Reply.{reply, number, accept}
+use Rattle.calls.specs.declared.Reply.{Reply}
 use Rattle.calls.specs.Fields.{fits}
 use Rattle.calls.specs.declared.Event.{Event}
 use Rattle.calls.specs.declared.Answer.{Answer}

@@ -5,7 +5,8 @@ use Rattle.ports.specs.Setters.{with_level}
 use Rattle.ports.specs.Pins.{raw_levels, sensed}
 use Rattle.ports.specs.declared.Pins.{Pins}
 use Rattle.control.specs.Watchdog.{watched_in, watched}
-use Rattle.calls.specs.Reply.{Reply, refuse, accept}
+use Rattle.calls.specs.Reply.{refuse, accept}
+use Rattle.calls.specs.declared.Reply.{Reply}
 use Rattle.calls.specs.declared.Event.{Event}
 use Rattle.board.specs.Step.{step_with, stepped}
 use Rattle.board.specs.Respond.{class_of, is_barred, refusal_by, passed_by, checked, called, respond_with}

@@ -5,28 +5,28 @@
 // and 4,000 records; one that is no longer than the last part also at once.
 #![tactic(auto)]
 
-ghost use Rattle.std.specs.Prelude.{◌≡◌, ◌+◌, ◌*◌, ◌<◌, ◌≤◌, length};
+ghost use Rattle.std.specs.Prelude.{◌≡◌, ◌+◌, ◌<◌, ◌≤◌, length};
 
 use board::Board;
 use buffers::RECORD;
 use calls::Event;
-use history::{AREA, BLOCK};
+use history::{AREA, BLOCK, FULL};
 use room::{Needs, Tally};
+use std::fmt::{self, Display, Formatter, Write};
 
 // The greatest V and W there are, and those of a step.
-const EVERY_V: u32 = 4294967295;
+const EVERY_V: u32 = u32::MAX;
 
-const EVERY_W: u64 = 18446744073709551615;
+const EVERY_W: u64 = u64::MAX;
 
 const STEP_V: u32 = calls::LINES - 1;
 
 const STEP_W: u64 = words::WORDS - 1;
 
-// How many records a part has at most.
-const PART: usize = 4000;
+// How many records a part has at most, and the room for them and the bytes behind them.
+const PART: u32 = 4000;
 
-// The records of a block.
-const FULL: u32 = history::FULL;
+const SIZE: usize = 65536;
 
 // The place of the first line of a late history: from there on an index has seven digits.
 const LATE: u32 = 1000000;
@@ -44,6 +44,14 @@ enum Sort {
     Kinds,
 }
 
+// A history: how its records are made, how many they are, and how many bytes stand behind them.
+#[derive(Clone, Copy)]
+struct History {
+    sort: Sort,
+    n: u32,
+    tail: u8,
+}
+
 // What writing, running and printing a history came to.
 #[derive(Clone, Copy)]
 struct Came {
@@ -54,171 +62,159 @@ struct Came {
     bytes: u64,
 }
 
-fn step(v: u32, w: u64) -> Event {
-    Event {
-        kind: 0,
-        member: 0,
-        selector: 0,
-        spare: 0,
-        v: v,
-        w: w,
-    }
-}
-
 // A call on channel 0.
 fn call(kind: u8, v: u32) -> Event {
     Event {
-        kind: kind,
+        kind,
         member: 0,
         selector: 0,
         spare: 0,
-        v: v,
+        v,
         w: 0,
     }
 }
 
-// Of eight steps in turn, seven that are refused.
-fn unfit(i: u32) -> Event {
-    let mut e = step(STEP_V, STEP_W);
-    match i % 8 {
-        0 => e.member = 1,
-        1 => e.selector = 1,
-        2 => e.spare = 1,
-        3 => e.v = calls::LINES,
-        4 => e.v = EVERY_V,
-        5 => e.w = words::WORDS,
-        6 => e.w = EVERY_W,
-        _ => e.spare = 0,
-    }
-    e
+fn step(v: u32, w: u64) -> Event {
+    Event { w, ..call(0, v) }
 }
 
-// The greatest count is loaded, and captured and read from the place LATE on.
+// Of eight steps in turn, seven that are refused.
+fn unfit(i: u32) -> Event {
+    let fits = step(STEP_V, STEP_W);
+    let turn = [
+        Event { member: 1, ..fits },
+        Event {
+            selector: 1,
+            ..fits
+        },
+        Event { spare: 1, ..fits },
+        Event {
+            v: calls::LINES,
+            ..fits
+        },
+        Event { v: EVERY_V, ..fits },
+        Event {
+            w: words::WORDS,
+            ..fits
+        },
+        Event { w: EVERY_W, ..fits },
+        fits,
+    ];
+    turn[(i % 8) as usize]
+}
+
+// The greatest count is loaded, and captured and read from the place LATE on. The arms are places of
+// a history, two of them single, so no enum names them.
 fn late(i: u32) -> Event {
-    if i == 0 {
-        return call(2, EVERY_V);
+    match i {
+        0 => call(2, EVERY_V),
+        1 => call(9, 0),
+        _ if i < LATE => step(0, 0),
+        _ if i % 2 == 0 => call(8, 0),
+        _ => call(11, 0),
     }
-    if i == 1 {
-        return call(9, 0);
-    }
-    if i < LATE {
-        return step(0, 0);
-    }
-    if i % 2 == 0 { call(8, 0) } else { call(11, 0) }
 }
 
 // Kind by kind, with the place for V.
 fn any_kind(i: u32) -> Event {
-    let mut e = call((i % 256) as u8, i);
-    e.member = (i / 256 % 64) as u8;
-    e
+    Event {
+        member: (i / 256 % 64) as u8,
+        ..call((i % 256) as u8, i)
+    }
 }
 
-// Record i of a history.
-fn event(sort: Sort, i: u32) -> Event {
-    match sort {
-        Sort::Steps => {
-            if i % 2 == 0 {
-                step(0, 0)
-            } else {
-                step(STEP_V, STEP_W)
-            }
+impl Sort {
+    // Record i of a history.
+    fn event(self, i: u32) -> Event {
+        match self {
+            Sort::Steps if i % 2 == 0 => step(0, 0),
+            Sort::Steps => step(STEP_V, STEP_W),
+            Sort::Unfit => unfit(i),
+            Sort::Late => late(i),
+            Sort::Kinds => any_kind(i),
         }
-        Sort::Unfit => unfit(i),
-        Sort::Late => late(i),
-        Sort::Kinds => any_kind(i),
+    }
+
+    // The records from place `from` of a history on, as many as there is room for.
+    fn fill(self, from: u32, out: &mut [u8]) {
+        for (record, i) in out.chunks_exact_mut(RECORD).zip(from..) {
+            record.copy_from_slice(&records::encode(self.event(i)));
+        }
     }
 }
 
-// Records from place `from` of a history on, at the start of out.
-fn fill(sort: Sort, from: u32, n: usize, out: &mut [u8])
-    requires n_bound { n ≤ 4000 }
-    requires n_in_bounds { 16 * n ≤ length out.old }
-{
-    let mut i: usize = 0;
-    while i < n {
-        let place = std::num::wrapping_add_u32(from, i as u32);
-        records::put_record(out, RECORD * i, event(sort, place));
-        i += 1;
+impl Display for Sort {
+    fn fmt<W: fmt::Write>(&self, f: &mut Formatter<W>) -> fmt::Result {
+        f.write_str(match self {
+            Sort::Steps => "steps",
+            Sort::Unfit => "unfit",
+            Sort::Late => "late",
+            Sort::Kinds => "kinds",
+        })
     }
 }
 
-// The last records of a history with the bytes behind them, and the length of both.
-fn fill_last(sort: Sort, from: u32, n: usize, tail: usize, out: &mut [u8]) -> usize
-    requires n_bound { n ≤ 4000 }
-    requires tail_bound { tail ≤ 15 }
-    requires out_len { length out.old ≡ 65536 }
-    ensures { result ≤ 65536 }
-{
-    let len = RECORD * n;
-    fill(sort, from, n, out);
-    buffers::clear(out, len, tail);
-    len + tail
-}
-
-// What is told of a history in parts of so many records.
-fn told(sort: Sort, n: u32, tail: usize, part: u32) -> Needs
-    requires le_part { 1 ≤ part }
-    requires part_bound { part ≤ 4000 }
-    requires tail_bound { tail ≤ 15 }
-{
-    let mut buf = [0u8; 65536];
-    let mut t = room::none();
-    let mut left = n;
-    while left > part {
-        let size = part as usize;
-        let len = RECORD * size;
-        fill(sort, n - left, size, &mut buf);
-        t = t.add(&buf[..len]);
-        left -= part;
+impl History {
+    // The records from place `from` on, at most so many, and behind the last of the history its bytes;
+    // answers the length of all that.
+    fn fill_part(self, from: u32, part: u32, out: &mut [u8; SIZE]) -> usize
+        requires place { from ≤ self.n }
+        requires room { part ≤ 4000 }
+        ensures { result ≤ 65536 }
+    {
+        let left = self.n - from;
+        let len = RECORD * left.min(part) as usize;
+        let behind = if left > part { 0 } else { self.tail };
+        let end = len + behind as usize;
+        self.sort.fill(from, &mut out[..len]);
+        out[len..end].fill(0);
+        end
     }
-    let end = fill_last(sort, n - left, left as usize, tail, &mut buf);
-    let all = t.add(&buf[..end]);
-    all.needs()
-}
 
-// What is told of a history that fits a part, at once.
-fn told_at_once(sort: Sort, n: usize, tail: usize) -> Needs
-    requires n_bound { n ≤ 4000 }
-    requires tail_bound { tail ≤ 15 }
-{
-    let mut buf = [0u8; 65536];
-    let end = fill_last(sort, 0, n, tail, &mut buf);
-    room::needs_of(&buf[..end])
+    // What is told of it in parts of so many records.
+    fn told(self, part: u32) -> Needs
+        requires some { 1 ≤ part }
+        requires room { part ≤ 4000 }
+    {
+        let mut buf = [0u8; SIZE];
+        let mut t = room::none();
+        for from in (0..self.n.max(1)).step_by(part as usize) {
+            let end = self.fill_part(from, part, &mut buf);
+            t = t.add(&buf[..end]);
+        }
+        t.needs()
+    }
+
+    // What is told of it at once, none where it is longer than a part.
+    fn told_at_once(self) -> Option<Needs> {
+        if self.n > PART {
+            return None;
+        }
+        let mut buf = [0u8; SIZE];
+        let end = self.fill_part(0, PART, &mut buf);
+        Some(room::needs_of(&buf[..end]))
+    }
 }
 
 // How many accepted steps a run of some records has.
-fn accepted(board: Board, h: &[u8]) -> u64
+fn accepted(board: Board, h: &[u8]) -> usize
     requires { length h.now ≤ 496 }
 {
     let mut answers = [0u8; AREA];
     runs::run(board, h, &mut answers);
-    let n = h.len() / RECORD;
-    let mut steps: u64 = 0;
-    let mut i: usize = 0;
-    while i < n {
-        let at = RECORD * i;
-        let e = records::event_at(h, at);
-        let a = runs::answer_at(&answers, at);
-        if (e.kind == 0) & (a.result == 0) {
-            steps = std::num::wrapping_add_u64(steps, 1);
-        }
-        i += 1;
-    }
-    steps
+    (0..h.len() / RECORD)
+        .filter(|i| {
+            let at = RECORD * i;
+            let e = records::event_at(h, at);
+            let a = runs::answer_at(&answers, at);
+            e.kind == 0 && a.result == 0
+        })
+        .count()
 }
 
 // How many line feeds a text has.
-fn feeds(text: &[u8]) -> u64 {
-    let mut n: u64 = 0;
-    let mut i: usize = 0;
-    while i < text.len() {
-        if text[i] == b'\n' {
-            n = std::num::wrapping_add_u64(n, 1);
-        }
-        i += 1;
-    }
-    n
+fn feeds(text: &[u8]) -> usize {
+    text.iter().filter(|b| **b == b'\n').count()
 }
 
 // The block of some records.
@@ -230,194 +226,172 @@ fn block_of(h: &[u8], number: u32) -> [u8; BLOCK]
     block
 }
 
-// One block of records more: it is run, written and printed.
-fn with_block(c: Came, h: &[u8], more: bool) -> Came
-    requires h_len_bound { length h.now ≤ 496 }
-    requires blocks_bound { c.blocks < 65535 }
-    ensures { result.blocks ≡ c.blocks + 1 }
-{
-    let mut out = [0u8; 4096];
-    let k = c.blocks;
-    let board = c.board;
-    let block = block_of(h, k);
-    let steps = accepted(board, h);
-    let p = loglines::print_place(board, k, &block, more, &mut out);
-    let w = p.written;
-    let next = p.board;
-    let lines = feeds(&out[..w]);
-    Came {
-        board: next,
-        blocks: k + 1,
-        steps: std::num::wrapping_add_u64(c.steps, steps),
-        lines: std::num::wrapping_add_u64(c.lines, lines),
-        bytes: std::num::wrapping_add_u64(c.bytes, w as u64),
+impl Came {
+    // One block of records more: it is run, written and printed.
+    fn with_block(self, h: &[u8], more: bool) -> Came
+        requires room { length h.now ≤ 496 }
+        requires blocks { self.blocks < 65535 }
+        ensures { result.blocks ≡ self.blocks + 1 }
+    {
+        let mut out = [0u8; 4096];
+        let block = block_of(h, self.blocks);
+        let steps = accepted(self.board, h) as u64;
+        let p = loglines::print_place(self.board, self.blocks, &block, more, &mut out);
+        let lines = feeds(&out[..p.written]) as u64;
+        Came {
+            board: p.board,
+            blocks: self.blocks + 1,
+            steps: self.steps.wrapping_add(steps),
+            lines: self.lines.wrapping_add(lines),
+            bytes: self.bytes.wrapping_add(p.written as u64),
+        }
     }
 }
 
-// The next n records more, of one block.
-fn come_on(sort: Sort, c: Came, n: usize, more: bool) -> Came
-    requires n_bound { n ≤ 31 }
-    requires blocks_bound { c.blocks < 65535 }
-    ensures { result.blocks ≡ c.blocks + 1 }
-{
-    let mut h = [0u8; AREA];
-    let len = RECORD * n;
-    fill(sort, FULL * c.blocks, n, &mut h);
-    with_block(c, &h[..len], more)
-}
-
-// What comes of a history.
-fn come(sort: Sort, n: u32) -> Came
-    requires { n ≤ 2031585 }
-{
-    let mut c = Came {
-        board: board::reset(),
-        blocks: 0,
-        steps: 0,
-        lines: 0,
-        bytes: 0,
-    };
-    let mut left = n;
-    while left > FULL {
-        c = come_on(sort, c, FULL as usize, true);
-        left -= FULL;
+impl History {
+    // What comes of its records.
+    fn come(self) -> Came
+        requires { self.n ≤ 2031585 }
+    {
+        let mut c = Came {
+            board: board::reset(),
+            blocks: 0,
+            steps: 0,
+            lines: 0,
+            bytes: 0,
+        };
+        // The records are made block by block, so there are only the blocks' numbers to walk over.
+        for k in 0..self.n.div_ceil(FULL) {
+            let mut h = [0u8; AREA];
+            let from = FULL * k;
+            let left = self.n - from;
+            let len = RECORD * left.min(FULL) as usize;
+            self.sort.fill(from, &mut h[..len]);
+            c = c.with_block(&h[..len], left > FULL);
+        }
+        c
     }
-    if left > 0 {
-        c = come_on(sort, c, left as usize, false);
+}
+
+// What is told of a history, each number with a space before it.
+#[derive(Clone, Copy)]
+struct Numbers(Needs);
+
+impl Display for Numbers {
+    fn fmt<W: fmt::Write>(&self, f: &mut Formatter<W>) -> fmt::Result {
+        let n = self.0;
+        write!(
+            f,
+            " {} {} {} {} {}",
+            n.result, n.blocks, n.steps, n.lines, n.bytes
+        )
     }
-    c
-}
-
-// A number, and before it a space.
-fn show_number(rt: HostRuntime, n: u64) {
-    let _ = rt.write_all(b" ");
-    let _ = print!(rt; "{n}");
-}
-
-fn show_needs(rt: HostRuntime, n: Needs) {
-    show_number(rt, n.result as u64);
-    show_number(rt, n.blocks as u64);
-    show_number(rt, n.steps as u64);
-    show_number(rt, n.lines as u64);
-    show_number(rt, n.bytes as u64);
-}
-
-fn same(a: Needs, b: Needs) -> bool {
-    (a.result == b.result)
-        & (a.blocks == b.blocks)
-        & (a.steps == b.steps)
-        & (a.lines == b.lines)
-        & (a.bytes == b.bytes)
 }
 
 // Whether what was told is what came.
 fn meets(n: Needs, c: Came) -> bool {
-    (n.blocks == c.blocks)
-        & (n.steps as u64 == c.steps)
-        & (n.lines as u64 == c.lines)
-        & (c.bytes <= n.bytes as u64)
+    n.blocks == c.blocks
+        && n.steps as u64 == c.steps
+        && n.lines as u64 == c.lines
+        && c.bytes <= n.bytes as u64
 }
 
 // Tells `ok` and the bytes that were printed, or all that came.
-fn verdict(rt: HostRuntime, n: Needs, c: Came) {
-    if meets(n, c) {
-        let _ = rt.write_all(b" ok, printed");
+fn verdict(rt: &impl Print, n: Needs, c: Came) {
+    let _ = if meets(n, c) {
+        print!(rt; " ok, printed {}", c.bytes)
     } else {
-        let _ = rt.write_all(b" differs: came");
-        show_number(rt, c.blocks as u64);
-        show_number(rt, c.steps);
-        show_number(rt, c.lines);
-    }
-    show_number(rt, c.bytes);
+        print!(rt;
+            " differs: came {} {} {} {}",
+            c.blocks, c.steps, c.lines, c.bytes
+        )
+    };
 }
 
 // The line of a history.
-fn show(rt: HostRuntime, name: &[u8], sort: Sort, n: u32, tail: usize)
-    requires { tail ≤ 15 }
-{
-    let _ = rt.write_all(name);
-    show_number(rt, n as u64);
-    show_number(rt, tail as u64);
-    let _ = rt.write_all(b":");
-    let needs = told(sort, n, tail, PART as u32);
-    show_needs(rt, needs);
-    let by_block = told(sort, n, tail, FULL);
-    let by_record = told(sort, n, tail, 1);
-    if !(same(needs, by_block) & same(needs, by_record)) {
-        let _ = rt.write_all(b" differs part by part");
+fn show(rt: &impl Print, h: History) {
+    let History { sort, n, tail } = h;
+    let needs = h.told(PART);
+    let _ = print!(rt; "{sort} {n} {tail}:{}", Numbers(needs));
+    if h.told(FULL) != needs || h.told(1) != needs {
+        let _ = print!(rt; " differs part by part");
     }
-    if n as usize <= PART {
-        if !same(needs, told_at_once(sort, n as usize, tail)) {
-            let _ = rt.write_all(b" differs at once");
-        }
+    if h.told_at_once().is_some_and(|at_once| at_once != needs) {
+        let _ = print!(rt; " differs at once");
     }
-    if needs.result == 0 {
-        if n as usize <= history::RECORDS {
-            verdict(rt, needs, come(sort, n));
-        }
+    if needs.result == 0 && n as usize <= history::RECORDS {
+        verdict(rt, needs, h.come());
     }
-    let _ = rt.write_all(b"\n");
+    let _ = println!(rt; "");
 }
 
-// The line of a tally handed in, to which n steps are added.
-fn show_tally(rt: HostRuntime, steps: u32, lines: u32, refused: bool, n: usize)
-    requires { n ≤ 4000 }
-{
-    let mut buf = [0u8; 65536];
-    let t = Tally {
-        steps: steps,
-        lines: lines,
-        refused: refused,
+// The line of a tally handed in, to which n steps are added, a part at most.
+fn show_tally(rt: &impl Print, t: Tally, n: u32) {
+    let mut buf = [0u8; SIZE];
+    let refused = u8::from(t.refused);
+    let _ = print!(rt;
+        "tally {} {} {refused}:{}",
+        t.steps,
+        t.lines,
+        Numbers(t.needs())
+    );
+    let h = History {
+        sort: Sort::Steps,
+        n,
+        tail: 0,
     };
-    let len = RECORD * n;
-    let _ = rt.write_all(b"tally");
-    show_number(rt, steps as u64);
-    show_number(rt, lines as u64);
-    show_number(rt, words::flag(refused) as u64);
-    let _ = rt.write_all(b":");
-    show_needs(rt, t.needs());
-    let _ = rt.write_all(b" and with");
-    show_number(rt, n as u64);
-    fill(Sort::Steps, 0, n, &mut buf);
-    let more = t.add(&buf[..len]);
-    show_needs(rt, more.needs());
-    let _ = rt.write_all(b"\n");
+    let end = h.fill_part(0, PART, &mut buf);
+    let more = t.add(&buf[..end]);
+    let _ = println!(rt; " and with {n}{}", Numbers(more.needs()));
 }
 
-fn histories(rt: HostRuntime) {
-    show(rt, b"steps", Sort::Steps, 0, 0);
-    show(rt, b"steps", Sort::Steps, 1, 0);
-    show(rt, b"steps", Sort::Steps, 31, 0);
-    show(rt, b"steps", Sort::Steps, 32, 0);
-    show(rt, b"steps", Sort::Steps, 2031585, 0);
-    show(rt, b"steps", Sort::Steps, 2031586, 0);
-    show(rt, b"steps", Sort::Steps, 0, 1);
-    show(rt, b"steps", Sort::Steps, 1, 1);
-    show(rt, b"steps", Sort::Steps, 4000, 15);
-    show(rt, b"unfit", Sort::Unfit, 7, 0);
-    show(rt, b"unfit", Sort::Unfit, 8, 0);
-    show(rt, b"unfit", Sort::Unfit, 31, 0);
-    show(rt, b"unfit", Sort::Unfit, 2031585, 0);
-    show(rt, b"late", Sort::Late, 1000002, 0);
-    show(rt, b"late", Sort::Late, 2031585, 0);
-    show(rt, b"kinds", Sort::Kinds, 256, 0);
-    show(rt, b"kinds", Sort::Kinds, 2031585, 0);
-    show(rt, b"kinds", Sort::Kinds, 2031585, 8);
+fn histories(rt: &impl Print) {
+    for (sort, n, tail) in [
+        (Sort::Steps, 0, 0),
+        (Sort::Steps, 1, 0),
+        (Sort::Steps, 31, 0),
+        (Sort::Steps, 32, 0),
+        (Sort::Steps, 2031585, 0),
+        (Sort::Steps, 2031586, 0),
+        (Sort::Steps, 0, 1),
+        (Sort::Steps, 1, 1),
+        (Sort::Steps, 4000, 15),
+        (Sort::Unfit, 7, 0),
+        (Sort::Unfit, 8, 0),
+        (Sort::Unfit, 31, 0),
+        (Sort::Unfit, 2031585, 0),
+        (Sort::Late, 1000002, 0),
+        (Sort::Late, 2031585, 0),
+        (Sort::Kinds, 256, 0),
+        (Sort::Kinds, 2031585, 0),
+        (Sort::Kinds, 2031585, 8),
+    ] {
+        show(rt, History { sort, n, tail });
+    }
 }
 
-fn tallies(rt: HostRuntime) {
-    show_tally(rt, 0, 0, false, 1);
-    show_tally(rt, 5, 26, false, 1);
-    show_tally(rt, 5, 26, true, 1);
-    show_tally(rt, 2031584, 0, false, 1);
-    show_tally(rt, 0, 2031585, false, 0);
-    show_tally(rt, 0, 2031585, false, 1);
-    show_tally(rt, 1, 2031585, false, 0);
-    show_tally(rt, EVERY_V, EVERY_V, false, 1);
-    show_tally(rt, EVERY_V, 2, false, 1);
+fn tallies(rt: &impl Print) {
+    for (steps, lines, refused, n) in [
+        (0, 0, false, 1),
+        (5, 26, false, 1),
+        (5, 26, true, 1),
+        (2031584, 0, false, 1),
+        (0, 2031585, false, 0),
+        (0, 2031585, false, 1),
+        (1, 2031585, false, 0),
+        (EVERY_V, EVERY_V, false, 1),
+        (EVERY_V, 2, false, 1),
+    ] {
+        let t = Tally {
+            steps,
+            lines,
+            refused,
+        };
+        show_tally(rt, t, n);
+    }
 }
 
 fn main(rt: HostRuntime) {
-    histories(rt);
-    tallies(rt);
+    histories(&rt);
+    tallies(&rt);
 }

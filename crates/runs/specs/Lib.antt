@@ -1,2 +1,3 @@
 pub mod After
 pub mod Answers
+pub mod Faults

@@ -1,10 +1,12 @@
 -- Laws of equal bytes.
 -- Assumes nothing.
-use mathlib.Core.Path.{◌≡◌, refl}
+use mathlib.Core.Path.{◌≡◌, refl, ap}
 use mathlib.Core.Bool.{Bool, true, false, ◌&&◌}
 use mathlib.Core.List.{List, [], ◌∷◌}
 use Prim.Native.Nat.{ℕ}
 use borrow.Author.Tests.{eqb-true, eq-eqb}
+use Rattle.std.specs.Cmp.Lexicographic.{pointwise}
+use lib.Dec.{eqb}
 use Rattle.scan.specs.Bytes.{same}
 
 pub same_refl : (l : List ℕ) → same l l ≡ true
@@ -34,3 +36,11 @@ same_not k l h = told (same k l) (λ e. h (same-eq k l e))
     told : (t : Bool) → (t ≡ true → ⊥) → t ≡ false
     told true f = absurd (f refl)
     told false f = refl
+
+-- `==` on slices says the same
+pub same-pointwise : (k l : List ℕ) → same k l ≡ pointwise eqb k l
+unfolding same
+same-pointwise [] [] = refl
+same-pointwise [] (b ∷ l) = refl
+same-pointwise (a ∷ k) [] = refl
+same-pointwise (a ∷ k) (b ∷ l) = ap (λ t. eqb a b && t) (same-pointwise k l)

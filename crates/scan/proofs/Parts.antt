@@ -1,17 +1,18 @@
 -- Laws of the parts of a text, of the bytes before a mark, and of `over`.
 -- Assumes nothing.
-use mathlib.Core.Path.{◌≡◌, refl, ◌∙◌}
+use mathlib.Core.Path.{◌≡◌, refl, ap, sym, ◌∙◌}
 use mathlib.Core.Bool.{Bool, true, false}
 use mathlib.Core.List.{List, [], ◌∷◌, ◌++◌, append_assoc, append-nil}
 use Prim.Native.Nat.{ℕ, suc, ◌+◌, ◌-◌, ◌≤◌, ◌<◌}
-use native.Mathlib.Nat.{sub_self}
-use native.Mathlib.Numerals.{add-one}
 use native.Mathlib.Omega.{arith}
-use borrow.Author.Tests.{lt-ltb, le-ltb}
+use borrow.Author.Tests.{ltb-false}
 use lib.Dec.{eqb}
-use lib.ListN.{length, take, drop, get_or, length-drop}
-use lib.Seq.{drop-cons, drop-length, take-suc, get_or-drop}
-use Rattle.scan.specs.Parts.{parts, parts_from, before, over}
+use lib.ListN.{length, take, get_or}
+use Rattle.std.specs.Prelude.{Some, None, cond, not, ltb, unwrap_or, position, fold}
+use Rattle.std.specs.List.{position_or_len, slice_split, onto_first}
+use Rattle.std.proofs.lemmas.List.Sums.{prefix_len-le-length}
+use Rattle.std.proofs.lemmas.List.Splits.{length-slice_split}
+use Rattle.scan.specs.Parts.{parts, before, over}
 
 -- ---- parts
 
@@ -36,61 +37,49 @@ pub parts-end : (s : ℕ → Bool) (p : List ℕ) → parts s p [] ≡ p ∷ []
 unfolding parts
 parts-end s p = refl
 
--- ---- parts from a place on
+-- ---- they are those that `split` gives
 
-pub parts_from-in : (s : ℕ → Bool) (l : List ℕ) (at : ℕ) → at ≤ length l → parts_from s l at ≡ parts s [] (drop at l)
-unfolding parts_from
-parts_from-in s l at h = rw (le-ltb (length l) at h)
+-- bytes that were read before, at the start of the first part
+abbrev ahead : List ℕ → List (List ℕ) → List (List ℕ)
+ahead p [] = p ∷ []
+ahead p (x ∷ xs) = (p ++ x) ∷ xs
 
-pub parts_from-start : (s : ℕ → Bool) (l : List ℕ) → parts_from s l 0 ≡ parts s [] l
-parts_from-start s l = parts_from-in s l 0 (omega arith)
+ahead-byte : (p : List ℕ) (b : ℕ) (xs : List (List ℕ)) → ahead p (onto_first b xs) ≡ ahead (p ++ (b ∷ [])) xs
+ahead-byte p b [] = refl
+ahead-byte p b (x ∷ xs) = ap (λ y. y ∷ xs) (sym (append_assoc p (b ∷ []) x))
 
-pub parts_from-end : (s : ℕ → Bool) (l : List ℕ) (at : ℕ) → length l < at → parts_from s l at ≡ []
-unfolding parts_from
-parts_from-end s l at h = rw (lt-ltb (length l) at h)
+ahead_none : (xs : List (List ℕ)) → 0 < length xs → ahead [] xs ≡ xs
+ahead_none [] h = absurd (omega arith)
+ahead_none (x ∷ xs) h = refl
 
--- ---- a part that is read byte by byte, from place `at` to i
+-- what is shown of the rest of a text, of it with a byte more
+module _ (s : ℕ → Bool) (p l : List ℕ) (b : ℕ) (whole : parts s [] l ≡ slice_split s l) (more : parts s (p ++ (b ∷ [])) l ≡ ahead (p ++ (b ∷ [])) (slice_split s l)) where
+  ahead-more : (t : Bool) → cond t (p ∷ parts s [] l) (parts s (p ++ (b ∷ [])) l) ≡ ahead p (cond t ([] ∷ slice_split s l) (onto_first b (slice_split s l)))
+  ahead-more true = ap (λ y. p ∷ y) whole ∙ ap (λ y. y ∷ slice_split s l) (sym (append-nil p))
+  ahead-more false = more ∙ sym (ahead-byte p b (slice_split s l))
 
-read_more : (l : List ℕ) (at i : ℕ) → at ≤ i → i < length l → take (i + 1 - at) (drop at l) ≡ take (i - at) (drop at l) ++ (get_or l i 0 ∷ [])
-read_more l at i b h =
-    let e : i + 1 - at ≡ suc (i - at) = omega arith in
-    let q : at + (i - at) ≡ i = omega arith in
-    let k : i - at < length (drop at l) = simp length-drop (omega arith) in
-    rw (e, take-suc (drop at l) (i - at) 0 k, get_or-drop at l (i - at) 0, q)
+ahead_split : (s : ℕ → Bool) (l : List ℕ) → ahead [] (slice_split s l) ≡ slice_split s l
+ahead_split s l = ahead_none (slice_split s l) (omega (arith, length-slice_split s l))
 
--- the parts from `at` on are those of the bytes read and of the rest
-abbrev pub Read : (ℕ → Bool) → List ℕ → ℕ → ℕ → Type 0
-Read s l at i = parts s [] (drop at l) ≡ parts s (take (i - at) (drop at l)) (drop i l)
+split-ahead : (s : ℕ → Bool) (p l : List ℕ) → parts s p l ≡ ahead p (slice_split s l)
+unfolding parts
+split-ahead s p [] = ap (λ y. y ∷ []) (sym (append-nil p))
+split-ahead s p (b ∷ l) = ahead-more s p l b (split-ahead s [] l ∙ ahead_split s l) (split-ahead s (p ++ (b ∷ [])) l) (s b)
 
-pub read_none : (s : ℕ → Bool) (l : List ℕ) (at : ℕ) → Read s l at at
-read_none s l at = rw (sub_self at)
+pub parts-split : (s : ℕ → Bool) (l : List ℕ) → parts s [] l ≡ slice_split s l
+parts-split s l = split-ahead s [] l ∙ ahead_split s l
 
-module _ (s : ℕ → Bool) (l : List ℕ) (at i : ℕ) (start : at ≤ i) (done : Read s l at i) where
-  -- they are with one byte more
-  pub part-more : i < length l → s (get_or l i 0) ≡ false → Read s l at (i + 1)
-  part-more h q =
-      done ∙ rw (read_more l at i start h, add-one, drop-cons l i 0 h) (parts-byte s (take (i - at) (drop at l)) (get_or l i 0) (drop (suc i) l) q)
+-- ---- the first byte that passes a test
 
-  -- at a separator the part is whole
-  pub part_cut : i < length l → s (get_or l i 0) ≡ true → parts_from s l at ≡ take (i - at) (drop at l) ∷ parts_from s l (i + 1)
-  part_cut h q =
-      parts_from-in s l at (omega arith)
-      ∙ done
-      ∙ rw (parts_from-in s l (i + 1) (omega arith), add-one, drop-cons l i 0 h) (parts_cut s (take (i - at) (drop at l)) (get_or l i 0) (drop (suc i) l) q)
-
-  -- at the end it is the last one
-  pub part-last : i ≡ length l → parts_from s l at ≡ take (i - at) (drop at l) ∷ parts_from s l (i + 1)
-  part-last e =
-      let none : drop i l ≡ [] = rw e (drop-length l) in
-      parts_from-in s l at (omega arith)
-      ∙ done
-      ∙ rw (none, parts_from-end s l (i + 1) (omega arith)) (parts-end s (take (i - at) (drop at l)))
+-- the place where `position` finds it, or else the length
+pub place-found : (s : ℕ → Bool) (l : List ℕ) → unwrap_or (position s l) (length l) ≡ position_or_len s l
+place-found s l = by (ltb (position_or_len s l) (length l)) refl
+  where
+    by : (t : Bool) → ltb (position_or_len s l) (length l) ≡ t → unwrap_or (cond t (Some (position_or_len s l)) None) (length l) ≡ position_or_len s l
+    by true e = refl
+    by false e = let h = prefix_len-le-length (λ b. not (s b)) l in let k = ltb-false _ _ e in omega arith
 
 -- ---- the bytes before a mark
-
-pub before-cut : (m b : ℕ) (l : List ℕ) → eqb b m ≡ true → before m (b ∷ l) ≡ []
-unfolding before
-before-cut m b l h = rw h
 
 pub before-byte : (m b : ℕ) (l : List ℕ) → eqb b m ≡ false → before m (b ∷ l) ≡ b ∷ before m l
 unfolding before
@@ -100,24 +89,18 @@ pub before-end : (m : ℕ) → before m [] ≡ []
 unfolding before
 before-end m = refl
 
--- they are the bytes passed up to place i and those of the rest
-abbrev pub Passed : ℕ → List ℕ → ℕ → Type 0
-Passed m l i = take i l ++ before m (drop i l) ≡ before m l
+-- they are those before the first byte that is the mark
+module _ (m b : ℕ) (l : List ℕ) (more : take (position_or_len (λ b. eqb b m) l) l ≡ before m l) where
+  before-more : (t : Bool) → take (cond (not t) (1 + position_or_len (λ b. eqb b m) l) 0) (b ∷ l) ≡ cond t [] (b ∷ before m l)
+  before-more true = refl
+  before-more false =
+      let e : 1 + position_or_len (λ b. eqb b m) l ≡ suc (position_or_len (λ b. eqb b m) l) = omega arith in
+      rw e (ap (λ k. b ∷ k) more)
 
-module _ (m : ℕ) (l : List ℕ) (i : ℕ) (done : Passed m l i) where
-  pub before_more : i < length l → eqb (get_or l i 0) m ≡ false → Passed m l (i + 1)
-  before_more h q =
-      rw (add-one, take-suc l i 0 h, append_assoc, ← before-byte m (get_or l i 0) (drop (suc i) l) q, ← drop-cons l i 0 h) done
-
-  pub before-found : i < length l → eqb (get_or l i 0) m ≡ true → take i l ≡ before m l
-  before-found h q =
-      let none : before m (drop i l) ≡ [] = rw (drop-cons l i 0 h) (before-cut m (get_or l i 0) (drop (suc i) l) q) in
-      simp (none, append-nil) at done
-
-  pub before-all : i ≡ length l → take i l ≡ before m l
-  before-all e =
-      let none : drop i l ≡ [] = rw e (drop-length l) in
-      simp (none, before-end, append-nil) at done
+pub before-found : (m : ℕ) (l : List ℕ) → take (position_or_len (λ b. eqb b m) l) l ≡ before m l
+unfolding before
+before-found m [] = refl
+before-found m (b ∷ l) = before-more m b l (before-found m l) (eqb b m)
 
 -- ---- over a list
 
@@ -126,8 +109,8 @@ unfolding over
 over-append f s [] l = refl
 over-append f s (a ∷ k) l = over-append f (f s a) k l
 
--- with one element more behind those that were taken
-pub over-more : {S : Type 0} (f : S → ℕ → S) (s : S) (l : List ℕ) (i : ℕ) → i < length l
-    → over f s (drop i l) ≡ over f (f s (get_or l i 0)) (drop (i + 1) l)
+-- it is the library's `fold`
+pub over-fold : {S A : Type 0} (f : S → A → S) (s : S) (l : List A) → over f s l ≡ fold f s l
 unfolding over
-over-more f s l i h = rw (drop-cons l i 0 h, add-one)
+over-fold f s [] = refl
+over-fold f s (a ∷ l) = over-fold f (f s a) l

@@ -1,6 +1,8 @@
 -- A text in parts: the bytes between separators, and the bytes before a mark.
 -- Assumes nothing.
-use Rattle.std.specs.Prelude.{Bool, cond, List, [], ◌∷◌, ◌++◌, ℕ, eqb, ltb, length, drop}
+use Rattle.std.specs.Prelude.{Bool, cond, List, [], ◌∷◌, ◌++◌, ℕ, eqb, ltb}
+use Rattle.scan.specs.declared.Between.{Between}
+use Rattle.scan.specs.declared.Between.TheVariants.{Words, Lines}
 
 -- the parts of a text between the bytes that s picks out, where the bytes of p were read of the first part already; two separators in a row
 -- have an empty part between them
@@ -8,13 +10,10 @@ unfoldable pub parts : (ℕ → Bool) → List ℕ → List ℕ → List (List �
 parts s p [] = p ∷ []
 parts s p (b ∷ l) = cond (s b) (p ∷ parts s [] l) (parts s (p ++ (b ∷ [])) l)
 
--- the parts that start at place at or behind it, where a part starts there; past the end there is none
-unfoldable pub parts_from : (ℕ → Bool) → List ℕ → ℕ → List (List ℕ)
-parts_from s l at = cond (ltb (length l) at) [] (parts s [] (drop at l))
-
 -- what separates words: a space and every byte below it; and lines: a line feed
-unfoldable pub between : Bool → ℕ → Bool
-between words b = cond words (ltb b 33) (eqb b 10)
+unfoldable pub between : Between → ℕ → Bool
+between Words b = ltb b 33
+between Lines b = eqb b 10
 
 -- the bytes before the first byte m
 unfoldable pub before : ℕ → List ℕ → List ℕ

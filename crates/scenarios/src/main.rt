@@ -10,775 +10,468 @@
 // error and ends the program.
 #![tactic(auto)]
 
-ghost use Rattle.std.specs.Prelude.{◌≡◌, ◌+◌, ◌<◌, ◌≤◌, length};
+ghost use Rattle.std.specs.Prelude.{◌≤◌, IfSome};
 
 use account::{Audit, Balance};
+use arrayvec::{ArrayString, ArrayVec};
 use board::Board;
 use calls::Event;
-use streams::{EACCES, EFBIG, EISDIR, ENAMETOOLONG, ENOENT, File};
-use textin::Text;
-
-// The number of channels.
-const CHANNELS: u64 = board::CHANNELS as u64;
+use scan::Between;
+use std::fmt::{self, Display, Formatter, Write};
+use std::{io, str};
+use streams::{EACCES, EISDIR, ENOENT, Error};
+use textin::{Text, Wanted};
 
 // The size of all buffers.
 const SIZE: usize = 65536;
 
-// The digits of the largest number.
-const DIGITS: usize = 20;
+// The room of a byte and a number of up to 20 digits.
+const SPAN: usize = 21;
 
-// The room of a byte and a number.
-const SPAN: usize = DIGITS + 1;
+// The room of a line of a log.
+const LINE: usize = 126;
 
-// Where the log stands: the place behind the lines that agreed, how many these are, the length of
-// the line that came last, and whether it differed.
+// The files of a history.
+#[derive(Drop)]
+struct Files {
+    text: [u8; SIZE],
+    log: [u8; SIZE],
+    levels: [u8; SIZE],
+}
+
+// What the program says on standard output, which is open until a write fails.
+#[derive(Drop)]
+struct Voice {
+    rt: HostRuntime,
+    open: bool,
+}
+
+impl Voice {
+    fn say(&mut self, what: &[u8]) {
+        if self.open
+            && let Err(why) = streams::print(self.rt, what)
+        {
+            streams::tell(self.rt, "scenarios", why);
+            self.open = false;
+        }
+    }
+
+    // What a line is for, and the line; an empty one is none.
+    fn say_line(&mut self, what: &[u8], line: &[u8]) {
+        self.say(what);
+        self.say(if line.is_empty() { b"nothing" } else { line });
+        self.say(b"\n");
+    }
+}
+
+impl Write for Voice {
+    fn write_str(&mut self, s: &str) -> fmt::Result {
+        self.say(s.as_bytes());
+        Ok(())
+    }
+}
+
+// A log as far as the answers agree with it: what stands behind these lines, and how many they are.
 #[derive(Clone, Copy)]
-struct Log {
-    at: usize,
+struct Log<'a> {
+    rest: &'a [u8],
     lines: u64,
-    came: usize,
-    wrong: bool,
 }
 
 // The board after so many events, and the log.
 #[derive(Clone, Copy)]
-struct Course {
+struct Course<'a> {
     board: Board,
     events: u64,
-    log: Log,
+    log: Log<'a>,
 }
 
-// What is looked at: a letter and a number.
+// A line that came and is not the next one of the log.
+type Came = ArrayVec<u8, LINE>;
+
+// What is looked at: a bit of the driven values or of the levels of the pins, or ExtOut of a channel.
 #[derive(Clone, Copy)]
-struct Output {
-    letter: u8,
-    number: u64,
+enum Output {
+    ExtOut(usize),
+    Driven(u64),
+    Level(u64),
 }
 
-// The steps so far, the length of the text of spans in which the output is high, and the first and
-// the last step of the span that is open, 0 if none is.
+// A span of steps in which an output is high.
 #[derive(Clone, Copy)]
-struct Spans {
-    steps: u64,
-    at: usize,
+struct Span {
     first: u64,
     last: u64,
 }
 
-// The board after the events so far, and the spans.
+// The text of the spans that are closed, the steps so far, and the span that is open.
+#[derive(Drop)]
+struct Spans {
+    text: ArrayString<SIZE>,
+    steps: u64,
+    open: Option<Span>,
+}
+
+// Why the spans of an output cannot be told.
 #[derive(Clone, Copy)]
-struct Watch {
-    board: Board,
-    spans: Spans,
+enum Untold {
+    NoOutput,
+    TooMany,
 }
 
-// Prints a text while standard output is open, which it is until a write fails.
-fn say(rt: HostRuntime, open: &mut bool, what: &[u8]) {
-    if *open {
-        *open = streams::print(rt, b"scenarios", what);
+impl Display for Untold {
+    fn fmt<W: Write>(&self, f: &mut Formatter<W>) -> fmt::Result {
+        f.write_str(match self {
+            Untold::NoOutput => "no such output",
+            Untold::TooMany => "more spans than fit 65536 bytes",
+        })
     }
 }
 
-// Prints a number in decimal.
-fn say_number(rt: HostRuntime, open: &mut bool, n: u64) {
-    let mut digits = [0u8; DIGITS];
-    let k = text::put_decimal(&mut digits, 0, n);
-    say(rt, open, &digits[..k]);
+// The first line of a text, without its line feed.
+fn first_line(text: &[u8]) -> &[u8] {
+    text.split(|b| *b == b'\n').next().unwrap_or(text)
 }
 
-// A line that was expected or that came; an empty one is none.
-fn show(rt: HostRuntime, open: &mut bool, what: &[u8], line: &[u8]) {
-    say(rt, open, what);
-    if line.len() == 0 {
-        say(rt, open, b"nothing");
-    } else {
-        say(rt, open, line);
-    }
-    say(rt, open, b"\n");
-}
-
-// The line of a text that starts at `at`, without its line feed; an empty one past the end.
-fn show_line(rt: HostRuntime, open: &mut bool, what: &[u8], text: &[u8], at: usize) {
-    if at > text.len() {
-        show(rt, open, what, b"");
-        return;
-    }
-    let to = scan::part_end(text, at, false);
-    show(rt, open, what, &text[at..to]);
-}
-
-// Tells what a limit is for, and the limit.
-fn tell_limit(rt: HostRuntime, open: &mut bool, what: &[u8], limit: usize) {
-    say(rt, open, what);
-    say_number(rt, open, limit as u64);
-    say(rt, open, b" bytes\n");
+// Tells why the system did not give a file.
+fn tell_error(voice: &mut Voice, e: io::Error) {
+    voice.say(match e.raw_os_error() {
+        Some(ENOENT) => b" is missing\n",
+        Some(EISDIR) => b" is a folder\n",
+        Some(EACCES) => b" may not be read\n",
+        _ => b" cannot be read\n",
+    });
 }
 
 // Tells why a file was not read whole.
-fn tell_file(rt: HostRuntime, open: &mut bool, name: &[u8], ending: &[u8], error: i32) {
-    say(rt, open, name);
-    say(rt, open, ending);
-    if error == EFBIG {
-        tell_limit(rt, open, b" has more than ", SIZE);
-    } else if error == ENAMETOOLONG {
-        tell_limit(rt, open, b" is a name of more than ", streams::PATH);
-    } else if error == ENOENT {
-        say(rt, open, b" is missing\n");
-    } else if error == EISDIR {
-        say(rt, open, b" is a folder\n");
-    } else if error == EACCES {
-        say(rt, open, b" may not be read\n");
-    } else {
-        say(rt, open, b" cannot be read\n");
+fn tell_file(voice: &mut Voice, name: &[u8], ending: &[u8], error: Error) {
+    voice.say(name);
+    voice.say(ending);
+    match error {
+        Error::TooLong => {
+            let _ = writeln!(voice, " has more than {SIZE} bytes");
+        }
+        Error::NameTooLong => {
+            let most = streams::PATH;
+            let _ = writeln!(voice, " is a name of more than {most} bytes");
+        }
+        Error::NotUtf8 => voice.say(b" cannot be read\n"),
+        Error::Io(e) => tell_error(voice, e),
     }
 }
 
-// Reads a file of a history. If it is not read whole, that is told, unless it is missing and not
-// needed, which is an empty file.
+// Whether there is no such file.
+fn is_missing(error: Error) -> bool {
+    matches!(error, Error::Io(e) if e.raw_os_error() == Some(ENOENT))
+}
+
+// Reads a file of a history, and answers its length. If it is not read whole, that is told, unless
+// it is missing and not needed, which is an empty file.
 fn load(
-    rt: HostRuntime,
-    open: &mut bool,
+    voice: &mut Voice,
     name: &[u8],
     ending: &[u8],
     needed: bool,
-    buf: &mut [u8],
-) -> File
-    ensures { result.count ≤ length buf.new }
+    buf: &mut [u8; SIZE],
+) -> Option<usize>
+    ensures { IfSome result (λ n. n ≤ 65536) }
 {
-    let f = streams::load(rt, name, ending, buf);
-    if f.error == 0 {
-        return f;
-    }
-    if !needed & (f.error == ENOENT) {
-        return File { count: 0, error: 0 };
-    }
-    tell_file(rt, open, name, ending, f.error);
-    f
-}
-
-// Whether the bytes of text from place `at` on start with a line.
-fn goes_on(text: &[u8], at: usize, line: &[u8]) -> bool {
-    if at > text.len() {
-        return false;
-    }
-    if line.len() > text.len() - at {
-        return false;
-    }
-    let to = at + line.len();
-    scan::same(&text[at..to], line)
-}
-
-// The log with a line that came, which may be empty.
-fn compared(l: Log, line: &[u8], log: &[u8]) -> Log
-    requires at_bound { l.at ≤ 65536 }
-    requires log_len_bound { length log.now ≤ 65536 }
-    ensures place { result.at ≤ 65536 }
-    ensures came { result.came ≡ length line.now }
-{
-    let n = line.len();
-    let at = l.at;
-    if n == 0 {
-        return Log {
-            at: at,
-            lines: l.lines,
-            came: n,
-            wrong: false,
-        };
-    }
-    if goes_on(log, at, line) {
-        if at + n <= SIZE {
-            return Log {
-                at: at + n,
-                lines: std::num::wrapping_add_u64(l.lines, 1),
-                came: n,
-                wrong: false,
-            };
+    match streams::load(voice.rt, name, ending, buf) {
+        Ok(n) => Some(n),
+        Err(cut) if !needed && is_missing(cut.error) => Some(0),
+        Err(cut) => {
+            tell_file(voice, name, ending, cut.error);
+            None
         }
-    }
-    Log {
-        at: at,
-        lines: l.lines,
-        came: n,
-        wrong: true,
-    }
-}
-
-// Sends an event, and compares the answer with the log.
-fn send(c: Course, e: Event, log: &[u8], line: &mut [u8]) -> Course
-    requires at_bound { c.log.at ≤ 65536 }
-    requires log_len_bound { length log.now ≤ 65536 }
-    requires line_len { length line.old ≡ 126 }
-    ensures place { result.log.at ≤ 65536 }
-    ensures came { result.log.came ≤ 126 }
-{
-    let o = board::apply(c.board, e);
-    let n = loglines::put_line(line, 0, c.events, e.kind, o.answer);
-    let l = compared(c.log, &line[..n], log);
-    let next = o.board;
-    Course {
-        board: next,
-        events: std::num::wrapping_add_u64(c.events, 1),
-        log: l,
-    }
-}
-
-// Sends an event so many times, until an answer differs.
-fn send_times(c: Course, e: Event, times: u32, log: &[u8], line: &mut [u8]) -> Course
-    requires at_bound { c.log.at ≤ 65536 }
-    requires came_bound { c.log.came ≤ 126 }
-    requires log_len_bound { length log.now ≤ 65536 }
-    requires line_len { length line.old ≡ 126 }
-    ensures place { result.log.at ≤ 65536 }
-    ensures came { result.log.came ≤ 126 }
-{
-    let mut next = c;
-    let mut i: u32 = 0;
-    while i < times {
-        next = send(next, e, log, line);
-        if next.log.wrong {
-            return next;
-        }
-        i += 1;
-    }
-    next
-}
-
-// Tells a bad line of a text.
-fn tell_bad(rt: HostRuntime, open: &mut bool, name: &[u8], t: Text) {
-    say(rt, open, name);
-    say(rt, open, b": line ");
-    say_number(rt, open, t.lines);
-    say(rt, open, b" of the text is bad, wanted ");
-    say_number(rt, open, t.wanted as u64);
-    say(rt, open, b"\n");
-}
-
-// Tells where a log differs.
-fn tell_answer(
-    rt: HostRuntime,
-    open: &mut bool,
-    name: &[u8],
-    t: Text,
-    l: Log,
-    log: &[u8],
-    line: &[u8],
-)
-    requires { l.at ≤ 65536 }
-{
-    say(rt, open, name);
-    say(rt, open, b".log line ");
-    say_number(rt, open, std::num::wrapping_add_u64(l.lines, 1));
-    say(rt, open, b", at line ");
-    say_number(rt, open, t.lines);
-    say(rt, open, b" of the text\n");
-    show_line(rt, open, b"  expected ", log, l.at);
-    show_line(rt, open, b"  came     ", line, 0);
-}
-
-// A text before its first line.
-fn no_text() -> Text {
-    Text {
-        lines: 0,
-        wanted: 0,
-        count: 0,
     }
 }
 
 // The board and the log before the first event.
-fn start() -> Course
-    ensures place { result.log.at ≡ 0 }
-    ensures came { result.log.came ≡ 0 }
-{
+fn start(log: &[u8]) -> Course<'_> {
     Course {
         board: board::reset(),
         events: 0,
         log: Log {
-            at: 0,
+            rest: log,
             lines: 0,
-            came: 0,
-            wrong: false,
         },
     }
+}
+
+impl Course<'_> {
+    // Sends an event, and goes on in the log by the line of its answer, which may be empty; one that
+    // is not the next of the log is the error.
+    fn send(&mut self, e: Event) -> Result<(), Came> {
+        let mut came = Came::new();
+        let o = board::apply(self.board, e);
+        loglines::append_line(&mut came, self.events, e.kind, o.answer);
+        self.board = o.board;
+        self.events = self.events.wrapping_add(1);
+        if came.as_slice().is_empty() {
+            return Ok(());
+        }
+        let Some(rest) = self.log.rest.strip_prefix(came.as_slice()) else {
+            return Err(came);
+        };
+        self.log = Log {
+            rest,
+            lines: self.log.lines.wrapping_add(1),
+        };
+        Ok(())
+    }
+}
+
+// Tells a bad line of a text.
+fn tell_bad(voice: &mut Voice, name: &[u8], line: u64, wanted: Wanted) {
+    voice.say(name);
+    let number = u8::from(wanted);
+    let _ = writeln!(voice, ": line {line} of the text is bad, wanted {number}");
+}
+
+// Tells where a log differs.
+fn tell_answer(voice: &mut Voice, name: &[u8], t: Text, log: Log<'_>, came: &[u8]) {
+    voice.say(name);
+    let number = log.lines.wrapping_add(1);
+    let _ = writeln!(voice, ".log line {number}, at line {} of the text", t.lines);
+    voice.say_line(b"  expected ", first_line(log.rest));
+    voice.say_line(b"  came     ", first_line(came));
 }
 
 // Runs a text and compares its answers with the log. The answer is whether all agree.
-fn run_answers(rt: HostRuntime, open: &mut bool, name: &[u8], text: &[u8], log: &[u8]) -> bool
-    requires { length log.now ≤ 65536 }
-{
-    let mut line = [0u8; 126];
-    let mut t = no_text();
-    let mut c = start();
-    let mut from: usize = 0;
-    while from <= text.len() {
-        let to = scan::part_end(text, from, false);
-        let added = textin::add_line(t, &text[from..to]);
+fn run_answers(voice: &mut Voice, name: &[u8], text: &[u8], log: &[u8]) -> bool {
+    let mut t = Text::new();
+    let mut c = start(log);
+    for line in text.split(|b| *b == b'\n') {
+        let added = textin::add_line(t, line);
         t = added.text;
-        if t.wanted != 0 {
-            tell_bad(rt, open, name, t);
-            return false;
+        let said = match (t.wanted, added.line) {
+            (None, Ok(said)) => said,
+            (Some(wanted), _) | (None, Err(wanted)) => {
+                tell_bad(voice, name, t.lines, wanted);
+                return false;
+            }
+        };
+        for _ in 0..said.times {
+            if let Err(came) = c.send(said.event) {
+                tell_answer(voice, name, t, c.log, came.as_slice());
+                return false;
+            }
         }
-        let said = added.line;
-        c = send_times(c, said.event, said.times, log, &mut line);
-        if c.log.wrong {
-            let n = c.log.came;
-            tell_answer(rt, open, name, t, c.log, log, &line[..n]);
-            return false;
-        }
-        from = to + 1;
     }
-    if c.log.at < log.len() {
-        tell_answer(rt, open, name, t, c.log, log, b"");
+    if !c.log.rest.is_empty() {
+        tell_answer(voice, name, t, c.log, b"");
         return false;
     }
-    say(rt, open, name);
-    say(rt, open, b": ");
-    say_number(rt, open, c.log.lines);
-    say(rt, open, b" answers");
+    voice.say(name);
+    let _ = write!(voice, ": {} answers", c.log.lines);
     true
 }
 
-// ExtOut of a channel.
-fn extout(b: Board, n: u64) -> bool {
-    if n >= CHANNELS {
-        return false;
+impl Output {
+    // The output that a word names, if there is one.
+    fn of(word: &[u8]) -> Option<Output> {
+        let (letter, digits) = word.split_first()?;
+        let n = scan::figure(10, digits)?;
+        match letter {
+            b'x' if n < board::CHANNELS as u64 => Some(Output::ExtOut(n as usize)),
+            b'd' if n < ports::PINS => Some(Output::Driven(words::only(n))),
+            b'p' if n < ports::PINS => Some(Output::Level(words::only(n))),
+            _ => None,
+        }
     }
-    let channels = b.channels;
-    let c = n as usize;
-    channels[c].extout
+
+    // Whether it is high.
+    fn is_high(self, b: &Board) -> bool {
+        match self {
+            Output::ExtOut(c) => b.channels.get(c).is_some_and(|c| c.extout),
+            Output::Driven(bit) => b.pins.driven & bit != 0,
+            Output::Level(bit) => b.pins.level & bit != 0,
+        }
+    }
 }
 
-// Whether an output is high.
-fn look(b: Board, o: Output) -> bool {
-    if o.letter == b'x' {
-        return extout(b, o.number);
+impl Spans {
+    // A byte and a number behind the text, if there is room for the longest.
+    fn put(&mut self, mark: char, n: u64) -> fmt::Result {
+        if self.text.as_str().len() > SIZE - SPAN {
+            return Err(fmt::Error);
+        }
+        write!(self.text, "{mark}{n}")
     }
-    if o.number >= ports::PINS {
-        return false;
+
+    // Closes the span that is open.
+    fn close(&mut self) -> fmt::Result {
+        match self.open.take() {
+            Some(span) if span.first != span.last => self.put('-', span.last),
+            _ => Ok(()),
+        }
     }
-    if o.letter == b'd' {
-        return words::bit(b.pins.driven, o.number);
+
+    // After one more step, in which the output is high or low.
+    fn step(&mut self, high: bool) -> fmt::Result {
+        let last = self.steps.wrapping_add(1);
+        self.steps = last;
+        if !high {
+            return self.close();
+        }
+        match self.open {
+            Some(span) => self.open = Some(Span { last, ..span }),
+            None => {
+                self.put(' ', last)?;
+                self.open = Some(Span { first: last, last });
+            }
+        }
+        Ok(())
     }
-    words::bit(b.pins.level, o.number)
 }
 
-// A byte and a number. The answer is SIZE where there is no room for them, and then stays so.
-fn put_step(out: &mut [u8], at: usize, b: u8, n: u64) -> usize
-    requires out_len { length out.old ≡ 65536 }
-    requires at_bound { at ≤ 65536 }
-    ensures { result ≤ 65536 }
-{
-    if at > SIZE - SPAN {
-        return SIZE;
-    }
-    let next = text::put_byte(out, at, b);
-    text::put_decimal(out, next, n)
-}
-
-// The spans after one more step, in which the output is high.
-fn high(s: Spans, out: &mut [u8]) -> Spans
-    requires out_len { length out.old ≡ 65536 }
-    requires at_bound { s.at ≤ 65536 }
-    ensures { result.at ≤ 65536 }
-{
-    let n = std::num::wrapping_add_u64(s.steps, 1);
-    if s.first != 0 {
-        return Spans {
-            steps: n,
-            at: s.at,
-            first: s.first,
-            last: n,
+// Runs a text, and writes the spans in which an output is high behind what is written already.
+fn watch(text: &[u8], o: Output, s: &mut Spans) -> fmt::Result {
+    let mut b = board::reset();
+    for line in text.split(|b| *b == b'\n') {
+        let Ok(said) = textin::read_line(line) else {
+            continue;
         };
+        for _ in 0..said.times {
+            let r = board::apply(b, said.event);
+            b = r.board;
+            if said.event.kind == 0 && r.answer.result == 0 {
+                s.step(o.is_high(&b))?;
+            }
+        }
     }
-    Spans {
-        steps: n,
-        at: put_step(out, s.at, b' ', n),
-        first: n,
-        last: n,
-    }
+    s.close()
 }
 
-// The spans with the open one closed.
-fn closed(s: Spans, out: &mut [u8]) -> Spans
-    requires out_len { length out.old ≡ 65536 }
-    requires at_bound { s.at ≤ 65536 }
-    ensures { result.at ≤ 65536 }
-{
-    if s.first == s.last {
-        return Spans {
-            steps: s.steps,
-            at: s.at,
-            first: 0,
-            last: 0,
-        };
-    }
-    Spans {
-        steps: s.steps,
-        at: put_step(out, s.at, b'-', s.last),
-        first: 0,
-        last: 0,
-    }
-}
-
-// The spans after one more step, in which the output is low.
-fn low(s: Spans, out: &mut [u8]) -> Spans
-    requires out_len { length out.old ≡ 65536 }
-    requires at_bound { s.at ≤ 65536 }
-    ensures { result.at ≤ 65536 }
-{
-    let c = closed(s, out);
-    Spans {
-        steps: std::num::wrapping_add_u64(c.steps, 1),
-        at: c.at,
-        first: 0,
-        last: 0,
-    }
-}
-
-// Sends an event, and looks at the output after an accepted step.
-fn watch_event(w: Watch, e: Event, o: Output, out: &mut [u8]) -> Watch
-    requires out_len { length out.old ≡ 65536 }
-    requires at_bound { w.spans.at ≤ 65536 }
-    ensures { result.spans.at ≤ 65536 }
-{
-    let r = board::apply(w.board, e);
-    let next = r.board;
-    let s = w.spans;
-    if (e.kind != 0) | (r.answer.result != 0) {
-        return Watch {
-            board: next,
-            spans: s,
-        };
-    }
-    if look(next, o) {
-        return Watch {
-            board: next,
-            spans: high(s, out),
-        };
-    }
-    Watch {
-        board: next,
-        spans: low(s, out),
-    }
-}
-
-// Sends an event so many times, looking at the output.
-fn watch_times(w: Watch, e: Event, times: u32, o: Output, out: &mut [u8]) -> Watch
-    requires out_len { length out.old ≡ 65536 }
-    requires at_bound { w.spans.at ≤ 65536 }
-    ensures { result.spans.at ≤ 65536 }
-{
-    let mut next = w;
-    let mut i: u32 = 0;
-    while i < times {
-        next = watch_event(next, e, o, out);
-        i += 1;
-    }
-    next
-}
-
-// Runs a text, and writes the spans in which an output is high behind place `at` of out. The answer
-// is the place behind them, SIZE where there is no room for all.
-fn watch_text(text: &[u8], o: Output, out: &mut [u8], at: usize) -> usize
-    requires out_len { length out.old ≡ 65536 }
-    requires at_bound { at ≤ 65536 }
-    ensures { result ≤ 65536 }
-{
-    let mut w = Watch {
-        board: board::reset(),
-        spans: Spans {
-            steps: 0,
-            at: at,
-            first: 0,
-            last: 0,
-        },
+// What a line of the levels should be, by its first word and a run of the text.
+fn level(text: &[u8], line: &[u8]) -> Result<ArrayString<SIZE>, Untold> {
+    let word = line
+        .split(|b| Between::Words.splits(*b))
+        .next()
+        .unwrap_or(line);
+    let o = Output::of(word).ok_or(Untold::NoOutput)?;
+    let name = str::from_utf8(word).map_err(|_| Untold::NoOutput)?;
+    let mut s = Spans {
+        text: ArrayString::from(name).map_err(|_| Untold::TooMany)?,
+        steps: 0,
+        open: None,
     };
-    let mut from: usize = 0;
-    while from <= text.len() {
-        let to = scan::part_end(text, from, false);
-        let said = textin::read_line(&text[from..to]);
-        w = watch_times(w, said.event, said.times, o, out);
-        from = to + 1;
+    watch(text, o, &mut s).map_err(|_| Untold::TooMany)?;
+    if s.text.as_str().len() == SIZE {
+        return Err(Untold::TooMany);
     }
-    let s = closed(w.spans, out);
-    s.at
-}
-
-// Whether there is such an output.
-fn is_output(letter: u8, number: u64) -> bool {
-    if letter == b'x' {
-        return number < CHANNELS;
-    }
-    ((letter == b'd') | (letter == b'p')) & (number < ports::PINS)
-}
-
-// The output that a line of the levels starts with, letter 0 if there is no such output.
-fn output_of(line: &[u8]) -> Output {
-    let none = Output {
-        letter: 0,
-        number: 0,
-    };
-    let to = scan::part_end(line, 0, true);
-    if to == 0 {
-        return none;
-    }
-    let letter = line[0];
-    let n = scan::figure(10, &line[1..to]);
-    if !n.good {
-        return none;
-    }
-    if !is_output(letter, n.value) {
-        return none;
-    }
-    Output {
-        letter: letter,
-        number: n.value,
-    }
+    Ok(s.text)
 }
 
 // Tells where the levels differ.
-fn tell_level(
-    rt: HostRuntime,
-    open: &mut bool,
-    name: &[u8],
-    number: u64,
-    line: &[u8],
-    came: &[u8],
-) {
-    say(rt, open, b"\n");
-    say(rt, open, name);
-    say(rt, open, b".levels line ");
-    say_number(rt, open, number);
-    say(rt, open, b"\n");
-    show(rt, open, b"  expected ", line);
-    show(rt, open, b"  came     ", came);
+fn tell_level(voice: &mut Voice, name: &[u8], number: u64, line: &[u8], came: impl Display + Drop) {
+    voice.say(b"\n");
+    voice.say(name);
+    let _ = writeln!(voice, ".levels line {number}");
+    voice.say_line(b"  expected ", line);
+    let _ = writeln!(voice, "  came     {came}");
 }
 
 // Whether a line of the levels agrees with the run; else the difference is told.
-fn run_level(
-    rt: HostRuntime,
-    open: &mut bool,
-    name: &[u8],
-    number: u64,
-    text: &[u8],
-    line: &[u8],
-    out: &mut [u8],
-) -> bool
-    requires out_len { length out.old ≡ 65536 }
-    requires line_len_bound { length line.now ≤ 65536 }
-{
-    let o = output_of(line);
-    if o.letter == 0 {
-        tell_level(rt, open, name, number, line, b"no such output");
-        return false;
+fn run_level(voice: &mut Voice, name: &[u8], number: u64, text: &[u8], line: &[u8]) -> bool {
+    match level(text, line) {
+        Ok(came) if came.as_str().as_bytes() == line => return true,
+        Ok(came) => tell_level(voice, name, number, line, came),
+        Err(why) => tell_level(voice, name, number, line, why),
     }
-    let word = scan::part_end(line, 0, true);
-    buffers::copy_to(&line[..word], out, 0);
-    let n = watch_text(text, o, out, word);
-    if n == SIZE {
-        tell_level(
-            rt,
-            open,
-            name,
-            number,
-            line,
-            b"more spans than fit 65536 bytes",
-        );
-        return false;
-    }
-    if scan::same(line, &out[..n]) {
-        return true;
-    }
-    tell_level(rt, open, name, number, line, &out[..n]);
     false
 }
 
 // Whether a line of the levels names an output.
 fn is_level(line: &[u8]) -> bool {
-    if line.len() == 0 {
-        return false;
-    }
-    line[0] != b'#'
+    line.first().is_some_and(|b| *b != b'#')
 }
 
 // Looks at all outputs that the levels name, and tells how many agree.
-fn look_all(
-    rt: HostRuntime,
-    open: &mut bool,
-    name: &[u8],
-    text: &[u8],
-    levels: &[u8],
-    out: &mut [u8],
-)
-    requires out_len { length out.old ≡ 65536 }
-    requires levels_len_bound { length levels.now ≤ 65536 }
-{
-    let mut number: u64 = 0;
+fn look_all(voice: &mut Voice, name: &[u8], text: &[u8], levels: &[u8]) {
     let mut good: u64 = 0;
-    let mut from: usize = 0;
-    while from <= levels.len() {
-        let to = scan::part_end(levels, from, false);
-        number = std::num::wrapping_add_u64(number, 1);
-        if is_level(&levels[from..to]) {
-            if !run_level(rt, open, name, number, text, &levels[from..to], out) {
+    for (line, number) in levels.split(|b| *b == b'\n').zip(1u64..) {
+        if is_level(line) {
+            if !run_level(voice, name, number, text, line) {
                 return;
             }
-            good = std::num::wrapping_add_u64(good, 1);
+            good = good.wrapping_add(1);
         }
-        from = to + 1;
     }
-    say(rt, open, b", ");
-    say_number(rt, open, good);
-    say(rt, open, b" levels\n");
-}
-
-// Sends an event so many times, with the accounts kept.
-fn audit_times(a: Audit, e: Event, times: u32) -> Audit {
-    let mut next = a;
-    let mut i: u32 = 0;
-    while i < times {
-        next = next.send(e);
-        i += 1;
-    }
-    next
-}
-
-// Prints a number and what it is.
-fn say_count(rt: HostRuntime, open: &mut bool, n: u64, what: &[u8]) {
-    say_number(rt, open, n);
-    say(rt, open, what);
-}
-
-// Tells the account of a channel.
-fn tell_balance(rt: HostRuntime, open: &mut bool, channel: usize, n: Balance) {
-    say(rt, open, b"  channel ");
-    say_count(rt, open, channel as u64, b": ");
-    say_count(rt, open, n.made, b" made, ");
-    say_count(rt, open, n.handed, b" handed out, ");
-    say_count(rt, open, n.held, b" held, ");
-    say_count(rt, open, n.reported, b" reported, ");
-    say_count(rt, open, n.unreported, b" unreported\n");
+    let _ = writeln!(voice, ", {good} levels");
 }
 
 // Tells the account of each channel that has one.
-fn tell_accounts(rt: HostRuntime, open: &mut bool, a: Audit) {
-    let accounts = a.accounts;
-    let board = a.board;
-    let channels = board.channels;
-    for i in 0..board::CHANNELS {
-        let n = account::balance_of(accounts[i], channels[i]);
-        if (n.made | n.handed | n.held | n.reported | n.unreported) != 0 {
-            tell_balance(rt, open, i, n);
+fn tell_accounts(voice: &mut Voice, a: Audit) {
+    for (i, (account, c)) in a.accounts.iter().zip(&a.board.channels).enumerate() {
+        let Balance {
+            made,
+            handed,
+            held,
+            reported,
+            unreported,
+        } = account::balance_of(*account, *c);
+        if [made, handed, held, reported, unreported] != [0; 5] {
+            let _ = write!(
+                voice,
+                "  channel {i}: {made} made, {handed} handed out, {held} held, "
+            );
+            let _ = writeln!(voice, "{reported} reported, {unreported} unreported");
         }
     }
 }
 
 // Runs a text, and tells its accounts.
-fn audit_text(rt: HostRuntime, open: &mut bool, text: &[u8]) {
+fn audit_text(voice: &mut Voice, text: &[u8]) {
     let mut a = account::start();
-    let mut from: usize = 0;
-    while from <= text.len() {
-        let to = scan::part_end(text, from, false);
-        let said = textin::read_line(&text[from..to]);
-        a = audit_times(a, said.event, said.times);
-        from = to + 1;
+    for line in text.split(|b| *b == b'\n') {
+        if let Ok(said) = textin::read_line(line) {
+            for _ in 0..said.times {
+                a = a.send(said.event);
+            }
+        }
     }
-    tell_accounts(rt, open, a);
+    tell_accounts(voice, a);
 }
 
-// Runs a history, compares its answers and then its levels, and audits it.
-fn compare(
-    rt: HostRuntime,
-    open: &mut bool,
-    name: &[u8],
-    text: &[u8],
-    log: &[u8],
-    levels: &[u8],
-    out: &mut [u8],
-)
-    requires log_len_bound { length log.now ≤ 65536 }
-    requires levels_len_bound { length levels.now ≤ 65536 }
-    requires out_len { length out.old ≡ 65536 }
-{
-    if run_answers(rt, open, name, text, log) {
-        look_all(rt, open, name, text, levels, out);
-        audit_text(rt, open, text);
+// Reads the files of one history; if all are read, runs it, compares its answers and then its
+// levels, and audits it.
+fn run(voice: &mut Voice, name: &[u8], files: &mut Files) -> Option<()> {
+    let n = load(voice, name, b".txt", true, &mut files.text)?;
+    let m = load(voice, name, b".log", true, &mut files.log)?;
+    let k = load(voice, name, b".levels", false, &mut files.levels)?;
+    let text = &files.text[..n];
+    if run_answers(voice, name, text, &files.log[..m]) {
+        look_all(voice, name, text, &files.levels[..k]);
+        audit_text(voice, text);
     }
-}
-
-// Reads the files of one history, and runs it if all are read.
-fn run(
-    rt: HostRuntime,
-    open: &mut bool,
-    name: &[u8],
-    text: &mut [u8],
-    log: &mut [u8],
-    levels: &mut [u8],
-    out: &mut [u8],
-)
-    requires text_len { length text.old ≡ 65536 }
-    requires log_len { length log.old ≡ 65536 }
-    requires levels_len { length levels.old ≡ 65536 }
-    requires out_len { length out.old ≡ 65536 }
-{
-    let t = load(rt, open, name, b".txt", true, text);
-    if t.error != 0 {
-        return;
-    }
-    let l = load(rt, open, name, b".log", true, log);
-    if l.error != 0 {
-        return;
-    }
-    let v = load(rt, open, name, b".levels", false, levels);
-    if v.error != 0 {
-        return;
-    }
-    let nt = t.count;
-    let nl = l.count;
-    let nv = v.count;
-    compare(rt, open, name, &text[..nt], &log[..nl], &levels[..nv], out);
+    Some(())
 }
 
 // Runs every history of a list, as long as standard output takes what is said.
-fn run_all(
-    rt: HostRuntime,
-    list: &[u8],
-    text: &mut [u8],
-    log: &mut [u8],
-    levels: &mut [u8],
-    out: &mut [u8],
-)
-    requires list_len_bound { length list.now ≤ 65536 }
-    requires text_len { length text.old ≡ 65536 }
-    requires log_len { length log.old ≡ 65536 }
-    requires levels_len { length levels.old ≡ 65536 }
-    requires out_len { length out.old ≡ 65536 }
-{
-    let mut open = true;
-    let mut from: usize = 0;
-    while from < list.len() {
-        let to = scan::part_end(list, from, false);
-        run(rt, &mut open, &list[from..to], text, log, levels, out);
-        if !open {
+fn run_all(voice: &mut Voice, list: &[u8], files: &mut Files) {
+    for line in list.split_inclusive(|b| *b == b'\n') {
+        let _ = run(voice, line.strip_suffix(b"\n").unwrap_or(line), files);
+        if !voice.open {
             return;
         }
-        from = to + 1;
     }
 }
 
 // Runs every history that standard input names.
 fn main(rt: HostRuntime) {
-    if !streams::is_ready(rt, b"scenarios") {
+    if let Err(why) = streams::ready(rt) {
+        streams::tell(rt, "scenarios", why);
         return;
     }
-    let mut list = [0u8; 65536];
-    let mut text = [0u8; 65536];
-    let mut log = [0u8; 65536];
-    let mut levels = [0u8; 65536];
-    let mut out = [0u8; 65536];
-    let got = streams::read_all(rt, b"scenarios", &mut list);
-    if got.error != 0 {
-        return;
+    let mut list = [0u8; SIZE];
+    let mut files = Files {
+        text: [0; SIZE],
+        log: [0; SIZE],
+        levels: [0; SIZE],
+    };
+    let mut voice = Voice { rt, open: true };
+    if let Ok(n) = streams::read_all(rt, "scenarios", &mut list) {
+        run_all(&mut voice, &list[..n], &mut files);
     }
-    let n = got.count;
-    run_all(rt, &list[..n], &mut text, &mut log, &mut levels, &mut out);
 }

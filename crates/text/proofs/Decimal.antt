@@ -6,6 +6,8 @@ use Prim.Native.Nat.{ℕ, zero, suc, ◌+◌, ◌-◌, ◌/◌, ◌%◌, ◌^◌
 use native.Mathlib.Omega.{arith, pow_step}
 use borrow.Author.Tests.{lt-ltb, le-ltb}
 use lib.ListN.{length, get_or, length-append}
+use Rattle.std.specs.Fmt as std
+use Rattle.std.proofs.lemmas.Fmt.{decimal_digit, decimal_step}
 use Rattle.buffers.proofs.Joined.{split}
 use Rattle.text.specs.Decimal.{digits, decimal, digit, hexadecimal}
 
@@ -31,9 +33,9 @@ length_digits (suc k) n =
     (λ b. simp (le-ltb n 10 b, length-append) (omega (arith, length_digits k (n / 10))))
     (λ b. simp (lt-ltb n 10 b) (omega arith))
 
-pub length-decimal : (n : ℕ) → length (decimal n) ≤ 20
+pub length_decimal : (n : ℕ) → length (decimal n) ≤ 20
 unfolding decimal
-length-decimal n = length_digits 19 n
+length_decimal n = length_digits 19 n
 
 -- d + 1 digits are enough below 10^(d + 1)
 digits-below : (d k n : ℕ) → n < 10 ^ suc d → length (digits k n) ≤ suc d
@@ -48,6 +50,22 @@ digits-below (suc d) (suc k) n h =
 pub decimal-below : (d n : ℕ) → n < 10 ^ suc d → length (decimal n) ≤ suc d
 unfolding decimal
 decimal-below d n h = digits-below d 19 n h
+
+-- ---- the library's digits
+
+-- the digits of a number that d + 1 of them are enough for
+digits-printed : (d n : ℕ) → n < 10 ^ suc d → n < 2 ^ 64 → std.decimal n ≡ digits d n
+unfolding digits
+digits-printed zero n h w = let e : n % 10 ≡ n = omega arith in rw e (decimal_digit n (omega arith))
+digits-printed (suc d) n h w =
+    split 10 n
+    (λ b. simp (le-ltb n 10 b, decimal_step n b w, digits-printed d (n / 10) (omega (arith, pow_step 10 (suc d))) (omega arith)))
+    (λ b. simp (lt-ltb n 10 b) (decimal_digit n b))
+
+-- what the library prints of a number of 64 bits
+pub decimal_printed : (n : ℕ) → n < 2 ^ 64 → std.decimal n ≡ decimal n
+unfolding decimal
+decimal_printed n w = digits-printed 19 n (omega arith) w
 
 -- ---- the bytes of digits
 

@@ -1,53 +1,56 @@
-// Text in lent buffers: numbers in decimal and hexadecimal. Each function answers the place behind what it wrote.
+// Text appended to a line of fixed room: bytes, and numbers in decimal and hexadecimal.
 #![tactic(auto)]
 
-ghost use Rattle.std.specs.Prelude.{◌≡◌, [], ◌∷◌, ◌+◌, ◌≤◌, ◌<◌, length};
-ghost use Rattle.buffers.specs.Pieces.{put};
-ghost use Rattle.text.specs.Decimal.{digits, decimal, entry, digit, hexadecimal};
+ghost use Rattle.std.specs.Prelude.{◌≡◌, [], ◌∷◌, ◌++◌, ◌+◌, ◌≤◌, ◌<◌, length};
+ghost use Rattle.arrayvec.specs.ArrayVec.{array_vec_len};
+ghost use Rattle.text.specs.Decimal.{decimal, entry, digit, hexadecimal};
 
-// The digits of v, k + 1 at most, from place `at` on.
-fn put_digits(out: &mut [u8], at: usize, v: u64, k: usize) -> usize
-    requires { at + k < length out.old }
-    ensures { (result ≡ at + length (digits k v)) × (out.new ≡ put out.old at (digits k v)) }
+use arrayvec::ArrayVec;
+use itoa::Buffer;
+
+// Bytes as they are.
+pub fn put_bytes<const N: usize>(line: &mut ArrayVec<u8, N>, bytes: &[u8])
+    requires room { array_vec_len line.old + length bytes.now ≤ N }
+    ensures wrote { line.new.items ≡ line.old.items ++ bytes.now }
 {
-    if k == 0 {
-        out[at] = 48 + (v % 10) as u8;
-        return at + 1;
-    }
-    if v < 10 {
-        out[at] = 48 + v as u8;
-        return at + 1;
-    }
-    let a = put_digits(out, at, v / 10, k - 1);
-    out[a] = 48 + (v % 10) as u8;
-    a + 1
+    let Ok(()) = line.try_extend_from_slice(bytes) else {
+        unreachable!();
+    };
 }
 
-// A number in decimal, from place `at` on.
-pub fn put_decimal(out: &mut [u8], at: usize, v: u64) -> usize
-    requires { at + 20 ≤ length out.old }
-    ensures { (result ≡ at + length (decimal v)) × (out.new ≡ put out.old at (decimal v)) }
+// A number in decimal.
+#[tactic(auto, using(crate::proofs::Decimal::length_decimal, crate::proofs::Decimal::decimal_printed))]
+pub fn put_decimal<const N: usize>(line: &mut ArrayVec<u8, N>, v: u64)
+    requires room { array_vec_len line.old + length (decimal v) ≤ N }
+    ensures within { array_vec_len line.new ≤ array_vec_len line.old + 20 }
+    ensures wrote { line.new.items ≡ line.old.items ++ decimal v }
 {
-    put_digits(out, at, v, 19)
-}
-
-// One byte.
-pub fn put_byte(out: &mut [u8], at: usize, b: u8) -> usize
-    requires { at < length out.old }
-    ensures { (result ≡ at + 1) × (out.new ≡ put out.old at (b ∷ [])) }
-{
-    out[at] = b;
-    at + 1
+    let mut buffer = Buffer::new();
+    put_bytes(line, buffer.format(v).as_bytes());
 }
 
 // A number in decimal and the byte b behind it.
-pub fn put_entry(out: &mut [u8], at: usize, v: u64, b: u8) -> usize
-    requires { at + 21 ≤ length out.old }
-    ensures within { result ≤ at + 21 }
-    ensures wrote { (result ≡ at + length (entry v b)) × (out.new ≡ put out.old at (entry v b)) }
+#[tactic(auto, using(crate::proofs::Decimal::length_decimal))]
+pub fn put_entry<const N: usize>(line: &mut ArrayVec<u8, N>, v: u64, b: u8)
+    requires room { array_vec_len line.old + 21 ≤ N }
+    ensures within { array_vec_len line.new ≤ array_vec_len line.old + 21 }
+    ensures wrote { line.new.items ≡ line.old.items ++ entry v b }
 {
-    let a = put_decimal(out, at, v);
-    put_byte(out, a, b)
+    put_decimal(line, v);
+    line.push(b);
+}
+
+// The lowest k hexadecimal digits of v.
+pub fn put_hexadecimal<const N: usize>(line: &mut ArrayVec<u8, N>, v: u64, k: usize)
+    requires room { array_vec_len line.old + k ≤ N }
+    ensures len { array_vec_len line.new ≡ array_vec_len line.old + k }
+    ensures wrote { line.new.items ≡ line.old.items ++ hexadecimal k v }
+{
+    if k == 0 {
+        return;
+    }
+    put_hexadecimal(line, v / 16, k - 1);
+    line.push(digit(v % 16));
 }
 
 // A hexadecimal digit.
@@ -56,17 +59,4 @@ fn digit(d: u64) -> u8
     ensures { result ≡ digit d }
 {
     if d < 10 { 48 + d as u8 } else { 87 + d as u8 }
-}
-
-// The lowest k hexadecimal digits of v, from place `at` on.
-pub fn put_hexadecimal(out: &mut [u8], at: usize, v: u64, k: usize) -> usize
-    requires { at + k ≤ length out.old }
-    ensures { (result ≡ at + k) × (out.new ≡ put out.old at (hexadecimal k v)) }
-{
-    if k == 0 {
-        return at;
-    }
-    let a = put_hexadecimal(out, at, v / 16, k - 1);
-    out[a] = digit(v % 16);
-    a + 1
 }

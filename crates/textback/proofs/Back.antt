@@ -13,25 +13,27 @@ use Rattle.buffers.proofs.Joined.{joined-piece}
 use Rattle.buffers.proofs.Put.{take_put}
 use Rattle.history.specs.Claim.{WholeRecords}
 use Rattle.scan.specs.Parts.{parts, before, over}
-use Rattle.textin.specs.declared.Parsed.{Parsed}
-use Rattle.textin.specs.Readings.{take_word, finished, line_of}
-use Rattle.textin.specs.Texts.{lines_of, wanted_of, add_line, no_text, checked, add_records, records_in, answered, output as records_out}
-use Rattle.textout.specs.Prints.{no_run, text_of, printed_text, printed, output as text_out}
+use Rattle.std.specs.Prelude.{None, Result, Ok, is_ok}
+use Rattle.history.specs.Refusals.{result_of}
+use Rattle.textin.specs.declared.Refusal.{Refusal}
+use Rattle.textin.specs.Readings.{take_word, said_at, finished, line_of}
+use Rattle.textin.specs.Texts.{lines_of, among, fitting, added, add_line, no_text, checked, records_of, add_records, records_in, answered, output as records_out}
+use Rattle.textout.specs.Prints.{no_run, text_of, printed_text, printed, written_in, output as text_out}
 use Rattle.textout.proofs.Runs.{printed-all}
 use Rattle.textback.specs.Claim.{Bytes, ReadsBack, ThereAndBack}
 use Rattle.textback.proofs.Whole.{Reads, all_read}
 
 -- behind the last line feed there is a line without words
-last_line : (lines count : ℕ) → count ≤ 2031585 → add_line (record { lines = lines; wanted = 0; count = count }) [] ≡ record { lines = (lines + 1) % 2 ^ 64; wanted = 0; count = count }
-unfolding add_line wanted_of line_of before parts over take_word finished
-last_line lines count h = let e : count + 0 ≡ count = omega arith in rw (e, le-ltb 2031585 count h)
+last_line : (lines count : ℕ) → count ≤ 2031585 → add_line (record { lines = lines; wanted = None; count = count }) [] ≡ record { lines = (lines + 1) % 2 ^ 64; wanted = None; count = count }
+unfolding add_line added fitting among line_of before parts over take_word finished said_at
+last_line lines count h = let e : count + 0 ≡ count = omega arith in rw (le-ltb 2031585 (count + 0) (omega arith), e)
 
 no-records : (h : List ℕ) → add_records h [] ≡ h
-unfolding add_records line_of before parts over take_word finished joined
+unfolding add_records records_of line_of before parts over take_word finished said_at joined
 no-records h = append-nil h
 
 module _ (text : List ℕ) (count : ℕ) (h : List ℕ) (r : Reads text count h) (few : count ≤ 2031585) where
-  whole-checked : checked text ≡ record { lines = (r.lines + 1) % 2 ^ 64; wanted = 0; count = count }
+  whole-checked : checked text ≡ record { lines = (r.lines + 1) % 2 ^ 64; wanted = None; count = count }
   unfolding checked lines_of parts over
   whole-checked =
       ap (λ (x : List ℕ). over add_line no_text (lines_of x)) (sym (append-nil text)) ∙ r.checks [] ∙ last_line r.lines count few
@@ -58,7 +60,7 @@ module _ (h : List ℕ) (sizes : WholeRecords (length h)) (bytes : Bytes h) wher
       ∙ joined-piece 16 n h
       ∙ take_all (16 * n) h (omega (arith, sixteen))
 
-  accepted : (size : ℕ) → length h ≤ size → answered (checked (text_of h n)) size ≡ record { result = 0; written = length h; line = 0; wanted = 0 }
+  accepted : (size : ℕ) → length h ≤ size → answered (checked (text_of h n)) size ≡ Ok (length h)
   unfolding answered
   accepted size m =
       rw (whole-checked (text_of h n) n (joined n (piece 16 h)) the-text sizes.limit, le-ltb (size / 16) n (omega arith), sixteen)
@@ -74,13 +76,13 @@ unfolding printed_text text_of
 whole-text h = refl
 
 written-text : (h out : List ℕ) → WholeRecords (length h) → 320 * (length h / 16 + 1) ≤ length out
-    → ((printed no_run h true (length out)).result ≡ 0) × (take (printed no_run h true (length out)).written (text_out no_run h true out) ≡ text_of h (length h / 16))
+    → (result_of (printed no_run h true (length out)) ≡ 0) × (take (written_in (printed no_run h true (length out))) (text_out no_run h true out) ≡ text_of h (length h / 16))
 written-text h out sizes room =
     let p = printed-all no_run h true out sizes.whole (omega arith) in
     rw (p.0, p.1) (refl, take_put out (printed_text no_run h true) ∙ whole-text h)
 
 -- an accepted text leaves its records at the start of the output
-read-records : (text out h : List ℕ) → (answered (checked text) (length out)).result ≡ 0 → records_in text ≡ h → take (length h) (records_out text out) ≡ h
+read-records : (text out h : List ℕ) → is_ok (answered (checked text) (length out)) ≡ true → records_in text ≡ h → take (length h) (records_out text out) ≡ h
 unfolding records_out
 read-records text out h a e = rw (a, e) (take_put out h)
 
@@ -88,4 +90,4 @@ pub there_and_back : ThereAndBack
 there_and_back h out out₂ sizes bytes room room₂ =
     let t = written-text h out sizes room in
     let b = reads-back h (length out₂) sizes bytes room₂ in
-    (t.0, rw t.1 b.0, rw t.1 (read-records (text_of h (length h / 16)) out₂ h (ap (λ (p : Parsed). p.result) b.0) b.1))
+    (t.0, rw t.1 b.0, rw t.1 (read-records (text_of h (length h / 16)) out₂ h (ap (λ (p : Result ℕ Refusal). is_ok p) b.0) b.1))

@@ -14,8 +14,10 @@ use Rattle.words.proofs.Cases.{tested, either, neither}
 use Rattle.calls.specs.Events.{call}
 use Rattle.calls.specs.declared.Event.{Event}
 use Rattle.text.specs.Decimal.{decimal}
-use Rattle.text.proofs.Decimal.{length-decimal, figures-decimal}
+use Rattle.text.proofs.Decimal.{length_decimal, figures-decimal}
+use Rattle.std.specs.Prelude.{Some}
 use Rattle.scan.specs.Numbers.{number}
+use Rattle.textin.specs.declared.Stage.TheVariants.{Fields}
 use Rattle.kinds.specs.declared.Named.{Named}
 use Rattle.kinds.specs.declared.Named.TheVariants.{Kind, Raw}
 use Rattle.kinds.specs.Names.{kinds, name, raw_name, fields_of, field_table, raw_fields}
@@ -68,7 +70,7 @@ module _ (e : Event) (r : Ranged e) where
       dec t = record {
         word = word-figures 58 (decimal (field_of e f)) (figures-decimal (field_of e f));
         some = some-decimal (field_of e f);
-        short = length-decimal (field_of e f);
+        short = length_decimal (field_of e f);
         says = read-decimal (field_of e f) (omega (arith, field_room f z h, room_most f));
       }
 
@@ -127,18 +129,18 @@ led-fields (suc n) left e = either (λ l. led l ≡ true) (none_left left e) ref
 
 -- one field, and the rest
 reads-field : (n left : ℕ) (f e : Event) (l : List ℕ) → Ranged e → 0 < left → 0 < left % 8 → left % 8 < 7 → led l ≡ true
-    → reads (at 1 left 1 f) (((32 ∷ field_text e (left % 8)) ++ fields_text n (left / 8) e) ++ l)
-    ≡ reads (at 1 (left / 8) 1 (with_field f (left % 8) (field_of e (left % 8)))) (fields_text n (left / 8) e ++ l)
+    → reads (at (Fields left) 1 f) (((32 ∷ field_text e (left % 8)) ++ fields_text n (left / 8) e) ++ l)
+    ≡ reads (at (Fields (left / 8)) 1 (with_field f (left % 8) (field_of e (left % 8)))) (fields_text n (left / 8) e ++ l)
 reads-field n left f e l r p z m h =
     let x = written e r (left % 8) z m in
-    ap (reads (at 1 left 1 f)) (append_assoc (32 ∷ field_text e (left % 8)) (fields_text n (left / 8) e) l)
-    ∙ reads-led (at 1 left 1 f) (field_text e (left % 8)) (fields_text n (left / 8) e ++ l) x.word
+    ap (reads (at (Fields left) 1 f)) (append_assoc (32 ∷ field_text e (left % 8)) (fields_text n (left / 8) e) l)
+    ∙ reads-led (at (Fields left) 1 f) (field_text e (left % 8)) (fields_text n (left / 8) e ++ l) x.word
     (led-append (fields_text n (left / 8) e) l (led-fields n (left / 8) e) h)
     ∙ ap (λ (s : Reading). reads s (fields_text n (left / 8) e ++ l))
     (take-field left f (field_text e (left % 8)) (field_of e (left % 8)) x.some p x.says (field_room e r (left % 8) z m))
 
 reads-fields : (n left : ℕ) (f e : Event) (l : List ℕ) → Ranged e → good_left n left ≡ true → led l ≡ true
-    → reads (at 1 left 1 f) (fields_text n left e ++ l) ≡ reads (at 1 (left_over (unselected e) n left) 1 (filled (unselected e) n left f e)) l
+    → reads (at (Fields left) 1 f) (fields_text n left e ++ l) ≡ reads (at (Fields (left_over (unselected e) n left)) 1 (filled (unselected e) n left f e)) l
 unfolding fields_text none_left stops left_over filled
 reads-fields zero left f e l r g h = refl
 reads-fields (suc n) left f e l r g h =
@@ -146,11 +148,11 @@ reads-fields (suc n) left f e l r g h =
   where
     more : (t : Bool) → none_left left e ≡ t
         → (good_left n (left / 8) ≡ true
-        → reads (at 1 (left / 8) 1 (with_field f (left % 8) (field_of e (left % 8)))) (fields_text n (left / 8) e ++ l)
-        ≡ reads (at 1 (left_over (unselected e) n (left / 8)) 1
+        → reads (at (Fields (left / 8)) 1 (with_field f (left % 8) (field_of e (left % 8)))) (fields_text n (left / 8) e ++ l)
+        ≡ reads (at (Fields (left_over (unselected e) n (left / 8))) 1
         (filled (unselected e) n (left / 8) (with_field f (left % 8) (field_of e (left % 8))) e)) l)
-        → reads (at 1 left 1 f) (cond t [] ((32 ∷ field_text e (left % 8)) ++ fields_text n (left / 8) e) ++ l)
-        ≡ reads (at 1 (cond t left (left_over (unselected e) n (left / 8))) 1
+        → reads (at (Fields left) 1 f) (cond t [] ((32 ∷ field_text e (left % 8)) ++ fields_text n (left / 8) e) ++ l)
+        ≡ reads (at (Fields (cond t left (left_over (unselected e) n (left / 8)))) 1
         (cond t f (filled (unselected e) n (left / 8) (with_field f (left % 8) (field_of e (left % 8))) e))) l
     more true q i = refl
     more false q i =
@@ -263,7 +265,7 @@ kept-first {w} f = kept_word 25 w f.word f.short
 record Heads (w : List ℕ) (fields k : ℕ) : Type 0 where
   pub named : Named
   pub first : First w named
-  pub begins : begun starting named ≡ at 1 fields 1 (call k 0 0)
+  pub begins : begun starting (Some named) ≡ at (Fields fields) 1 (call k 0 0)
   pub good : good_left 6 fields ≡ true
 
 heads-kind : (k : ℕ) → 0 < k → k < kinds → Heads (name k) (fields_of k) k
@@ -285,7 +287,7 @@ module _ {w : List ℕ} {fields k : ℕ} (H : Heads w fields k) (e : Event) (r :
       ∙ reads_word starting w (fields_text 6 fields e ++ l) H.first.word (led-append (fields_text 6 fields e) l (led-fields 6 fields e) h)
       ∙ ap (λ (s : Reading). reads s (fields_text 6 fields e ++ l)) (take-first H.first ∙ H.begins)
       ∙ reads-fields 6 fields (call k 0 0) e l r H.good h
-      ∙ ap (λ (s : Reading). reads s l) (λ i. at 1 (o i) 1 (q i))
+      ∙ ap (λ (s : Reading). reads s l) (λ i. at (Fields (o i)) 1 (q i))
 
   kept-headed : Kept 151 (word_text w fields e)
   unfolding word_text

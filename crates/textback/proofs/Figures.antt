@@ -1,7 +1,7 @@
 -- Numbers that are printed are read again.
 -- Assumes nothing.
 use mathlib.Core.Path.{◌≡◌, refl, ap, ◌∙◌}
-use mathlib.Core.Bool.{true, false}
+use mathlib.Core.Bool.{false}
 use mathlib.Core.List.{List, [], ◌∷◌, ◌++◌}
 use Prim.Native.Nat.{ℕ, zero, suc, ◌+◌, ◌*◌, ◌/◌, ◌%◌, ◌^◌, ◌≤◌, ◌<◌}
 use native.Mathlib.Omega.{arith, pow_step}
@@ -14,13 +14,13 @@ use Rattle.text.proofs.Decimal.{Figures, figures-append, figures-decimal, length
 use Rattle.scan.specs.Bytes.{ascii, same}
 use Rattle.scan.specs.Parts.{over}
 use Rattle.scan.specs.Numbers.{worth, extended, number}
-use Rattle.scan.specs.declared.Amount.{Amount}
+use Rattle.std.specs.Prelude.{Option, Some}
 use Rattle.scan.proofs.Bytes.{same_not, same_refl}
 use Rattle.scan.proofs.Parts.{over-append}
 use Rattle.scan.proofs.Numbers.{extended-digit, figure-some, number-decimal, number-hexadecimal}
 
-abbrev pub read : ℕ → Amount
-read n = record { good = true; value = n }
+abbrev pub read : ℕ → Option ℕ
+read n = Some n
 
 -- ---- decimal
 
@@ -41,7 +41,7 @@ digit-more : (base : ℕ) (l : List ℕ) (n d b m : ℕ) → over (extended base
     → over (extended base) (read 0) (l ++ (b ∷ [])) ≡ read m
 unfolding over
 digit-more base l n d b m r w h e k =
-    over-append (extended base) (read 0) l (b ∷ []) ∙ ap (λ (a : Amount). extended base a b) r ∙ more base n d b m w h e k
+    over-append (extended base) (read 0) l (b ∷ []) ∙ ap (λ (a : Option ℕ). extended base a b) r ∙ more base n d b m w h e k
 
 read-digits : (k n : ℕ) → n < 10 * 10 ^ k → n < 2 ^ 64 → over (extended 10) (read 0) (digits k n) ≡ read n
 unfolding digits

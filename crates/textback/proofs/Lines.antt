@@ -11,6 +11,7 @@ use Rattle.words.proofs.Cases.{tested}
 use Rattle.calls.specs.Events.{lines}
 use Rattle.calls.specs.declared.Event.{Event}
 use Rattle.kinds.specs.Names.{kinds}
+use Rattle.scan.specs.declared.Between.TheVariants.{Words}
 use Rattle.scan.specs.Parts.{parts, between, before, over}
 use Rattle.scan.proofs.Parts.{before-end}
 use Rattle.textin.specs.Readings.{starting, take_word, finished, line_of}
@@ -98,7 +99,7 @@ kept_run n e r = kept_append 289 23 (event_text e) (times_text n) (says-event e 
 whole-line : (l : List ℕ) → Quiet l → line_of l ≡ finished (reads starting l)
 unfolding line_of reads
 whole-line l q =
-    ap (λ (x : List ℕ). finished (over take_word starting (parts (between true) [] x)))
+    ap (λ (x : List ℕ). finished (over take_word starting (parts (between Words) [] x)))
     (ap (before 35) (sym (append-nil l)) ∙ q.comment [] ∙ ap (λ (x : List ℕ). l ++ x) (before-end 35) ∙ append-nil l)
 
 pub line-run : (n : ℕ) (e : Event) → Ranged e → 0 < n → n < 2 ^ 32 → line_of (run_text n e) ≡ said n e

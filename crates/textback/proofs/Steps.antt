@@ -16,7 +16,10 @@ use Rattle.buffers.specs.Pieces.{joined}
 use Rattle.buffers.proofs.Joined.{split}
 use Rattle.calls.specs.Events.{lines}
 use Rattle.calls.specs.declared.Event.{Event}
+use Rattle.std.specs.Prelude.{Some, None}
 use Rattle.scan.specs.Numbers.{number}
+use Rattle.kinds.specs.declared.Input.{Input}
+use Rattle.kinds.specs.declared.Input.TheVariants.{Line, Pin}
 use Rattle.kinds.specs.Names.{name, input_of, input_name, pin_name}
 use Rattle.kinds.proofs.Names.{Word, first_kind, input-named, pin-named, input-no-number, pin-no-number, input-word, pin-word, input-length, pin-length, pin-some}
 use Rattle.textin.specs.declared.Reading.{Reading}
@@ -73,14 +76,14 @@ up-all size v h = word-ext size _ _ (λ j k. rw (lt-ltb j size k)) ∙ word-own 
 -- ---- the names of one word's bits
 
 -- what is said of the names: of the inputs at the bits of V, and of the pins
-record Named (size : ℕ) (pin : Bool) (called : ℕ → List ℕ) : Type 0 where
+record Named (size : ℕ) (input : ℕ → Input) (called : ℕ → List ℕ) : Type 0 where
   pub word : (i : ℕ) → i < size → Word (called i)
   pub some : (i : ℕ) → i < size → 0 < length (called i)
   pub short : (i : ℕ) → i < size → length (called i) ≤ 3
-  pub other : (i : ℕ) → i < size → (number (called i)).good ≡ false
-  pub says : (i : ℕ) → i < size → input_of (called i) ≡ record { good = true; pin = pin; place = i }
+  pub other : (i : ℕ) → i < size → number (called i) ≡ None
+  pub says : (i : ℕ) → i < size → input_of (called i) ≡ Some (input i)
 
-inputs : Named 18 false input_name
+inputs : Named 18 Line input_name
 inputs = record {
   word = input-word;
   some = λ i h. omega (arith, input-length i);
@@ -89,7 +92,7 @@ inputs = record {
   says = input-named;
 }
 
-pins : Named 48 true pin_name
+pins : Named 48 Pin pin_name
 pins = record {
   word = pin-word;
   some = λ i h. pin-some i;
@@ -98,7 +101,7 @@ pins = record {
   says = pin-named;
 }
 
-module _ (size : ℕ) (pin : Bool) (called : ℕ → List ℕ) (N : Named size pin called) (v : ℕ) where
+module _ (size : ℕ) (input : ℕ → Input) (called : ℕ → List ℕ) (N : Named size input called) (v : ℕ) where
   -- a space and the name of a bit that is 1
   called_at : ℕ → List ℕ
   called_at i = cond (bit v i) (32 ∷ called i) []
@@ -110,7 +113,7 @@ module _ (size : ℕ) (pin : Bool) (called : ℕ → List ℕ) (N : Named size p
 
   with-up : ℕ → Event → Event
   with-up zero e = e
-  with-up (suc n) e = cond (bit v n) (raised (with-up n e) (record { good = true; pin = pin; place = n })) (with-up n e)
+  with-up (suc n) e = cond (bit v n) (raised (with-up n e) (input n)) (with-up n e)
 
   led-at : (i : ℕ) → led (called_at i) ≡ true
   unfolding called_at
@@ -122,16 +125,16 @@ module _ (size : ℕ) (pin : Bool) (called : ℕ → List ℕ) (N : Named size p
 
   reads-one : (n : ℕ) (some : Bool) (e : Event) (l : List ℕ) → n < size → led l ≡ true
       → reads (behind some e) (called_at n ++ l)
-      ≡ reads (behind (cond (bit v n) true some) (cond (bit v n) (raised e (record { good = true; pin = pin; place = n })) e)) l
+      ≡ reads (behind (cond (bit v n) true some) (cond (bit v n) (raised e (input n)) e)) l
   unfolding called_at
   reads-one n some e l b h = by (bit v n)
     where
       by : (t : Bool) → reads (behind some e) (cond t (32 ∷ called n) [] ++ l)
-          ≡ reads (behind (cond t true some) (cond t (raised e (record { good = true; pin = pin; place = n })) e)) l
+          ≡ reads (behind (cond t true some) (cond t (raised e (input n)) e)) l
       by true =
           reads-led (behind some e) (called n) l (N.word n b) h
           ∙ ap (λ (s : Reading). reads s l)
-          (take-input some e (called n) (record { good = true; pin = pin; place = n }) (N.some n b) (N.other n b) (N.says n b) refl)
+          (take-input some e (called n) (input n) (N.some n b) (N.other n b) (N.says n b))
       by false = refl
 
   reads_up : (n : ℕ) (some : Bool) (e : Event) (l : List ℕ) → n ≤ size → led l ≡ true
@@ -144,16 +147,16 @@ module _ (size : ℕ) (pin : Bool) (called : ℕ → List ℕ) (N : Named size p
       ∙ reads-one n (some_up n some) (with-up n e) l (omega arith) h
 
   -- where the event is made of the word
-  module _ (made : ℕ → Event) (raise : (x n : ℕ) → raised (made x) (record { good = true; pin = pin; place = n }) ≡ made (put_bit size n true x)) where
+  module _ (made : ℕ → Event) (raise : (x n : ℕ) → raised (made x) (input n) ≡ made (put_bit size n true x)) where
     made_up : (n : ℕ) → n ≤ size → with-up n (made 0) ≡ made (up_to size n v)
     unfolding with-up
     made_up zero h = ap made (sym (up_none size v))
     made_up (suc n) h = by (bit v n) refl (made_up n (omega arith))
       where
         by : (t : Bool) → bit v n ≡ t → with-up n (made 0) ≡ made (up_to size n v)
-            → cond t (raised (with-up n (made 0)) (record { good = true; pin = pin; place = n })) (with-up n (made 0)) ≡ made (up_to size (suc n) v)
+            → cond t (raised (with-up n (made 0)) (input n)) (with-up n (made 0)) ≡ made (up_to size (suc n) v)
         by true b e =
-            ap (λ (x : Event). raised x (record { good = true; pin = pin; place = n })) e
+            ap (λ (x : Event). raised x (input n)) e
             ∙ raise (up_to size n v) n
             ∙ ap made (up-bit size n v (omega arith) b)
         by false b e = e ∙ ap made (no-bit size n v b)
@@ -167,17 +170,17 @@ module _ (size : ℕ) (pin : Bool) (called : ℕ → List ℕ) (N : Named size p
 
 -- ---- V, then W
 
-raise-input : (x n : ℕ) → raised (lines x 0) (record { good = true; pin = false; place = n }) ≡ lines (put_bit 18 n true x) 0
+raise-input : (x n : ℕ) → raised (lines x 0) (Line n) ≡ lines (put_bit 18 n true x) 0
 unfolding raised
 raise-input x n = refl
 
-raise-pin : (v x n : ℕ) → raised (lines v x) (record { good = true; pin = true; place = n }) ≡ lines v (put_bit 48 n true x)
+raise-pin : (v x n : ℕ) → raised (lines v x) (Pin n) ≡ lines v (put_bit 48 n true x)
 unfolding raised
 raise-pin v x n = refl
 
 -- whether an input or a pin is up
 pub any-up : ℕ → ℕ → Bool
-any-up v w = some_up 48 true pin_name pins w 48 (some_up 18 false input_name inputs v 18 false)
+any-up v w = some_up 48 Pin pin_name pins w 48 (some_up 18 Line input_name inputs v 18 false)
 
 pub reads-step : (e : Event) (l : List ℕ) → e ≡ lines e.v e.w → e.v < 2 ^ 18 → e.w < 2 ^ 48 → led l ≡ true
     → reads starting (step_text e ++ l) ≡ reads (ended false (any-up e.v e.w) e) l
@@ -187,27 +190,27 @@ reads-step e l q v w h =
     ∙ reads_word starting (name 0) ((input-names ++ pin-names) ++ l) (first_kind 0 (omega arith)).word (led-append (input-names ++ pin-names) l (led-append input-names pin-names led-inputs led-pins) h)
     ∙ ap (λ (s : Reading). reads s ((input-names ++ pin-names) ++ l)) (take-first (first_kind 0 (omega arith)))
     ∙ ap (reads (behind false (lines 0 0))) (append_assoc input-names pin-names l)
-    ∙ reads_all 18 false input_name inputs e.v (λ x. lines x 0) raise-input false (pin-names ++ l) v (led-append pin-names l led-pins h)
-    ∙ reads_all 48 true pin_name pins e.w (lines e.v) (raise-pin e.v) (some_up 18 false input_name inputs e.v 18 false) l w h
+    ∙ reads_all 18 Line input_name inputs e.v (λ x. lines x 0) raise-input false (pin-names ++ l) v (led-append pin-names l led-pins h)
+    ∙ reads_all 48 Pin pin_name pins e.w (lines e.v) (raise-pin e.v) (some_up 18 Line input_name inputs e.v 18 false) l w h
     ∙ ap (λ (x : Event). reads (behind (any-up e.v e.w) x) l) (sym q)
   where
     input-names : List ℕ
-    input-names = joined 18 (called_at 18 false input_name inputs e.v)
+    input-names = joined 18 (called_at 18 Line input_name inputs e.v)
 
     pin-names : List ℕ
-    pin-names = joined 48 (called_at 48 true pin_name pins e.w)
+    pin-names = joined 48 (called_at 48 Pin pin_name pins e.w)
 
     led-inputs : led input-names ≡ true
-    led-inputs = led-joined 18 (called_at 18 false input_name inputs e.v) (λ i k. led-at 18 false input_name inputs e.v i)
+    led-inputs = led-joined 18 (called_at 18 Line input_name inputs e.v) (λ i k. led-at 18 Line input_name inputs e.v i)
 
     led-pins : led pin-names ≡ true
-    led-pins = led-joined 48 (called_at 48 true pin_name pins e.w) (λ i k. led-at 48 true pin_name pins e.w i)
+    led-pins = led-joined 48 (called_at 48 Pin pin_name pins e.w) (λ i k. led-at 48 Pin pin_name pins e.w i)
 
 pub kept_step : (e : Event) → Kept 289 (step_text e)
 unfolding step_text input_text pin_text called_at
 kept_step e =
-    kept_append 25 264 (name 0) (joined 18 (called_at 18 false input_name inputs e.v) ++ joined 48 (called_at 48 true pin_name pins e.w))
+    kept_append 25 264 (name 0) (joined 18 (called_at 18 Line input_name inputs e.v) ++ joined 48 (called_at 48 Pin pin_name pins e.w))
     (kept-first (first_kind 0 (omega arith)))
-    (kept_append 72 192 (joined 18 (called_at 18 false input_name inputs e.v)) (joined 48 (called_at 48 true pin_name pins e.w))
-    (kept-joined 4 18 (called_at 18 false input_name inputs e.v) (kept_at 18 false input_name inputs e.v))
-    (kept-joined 4 48 (called_at 48 true pin_name pins e.w) (kept_at 48 true pin_name pins e.w)))
+    (kept_append 72 192 (joined 18 (called_at 18 Line input_name inputs e.v)) (joined 48 (called_at 48 Pin pin_name pins e.w))
+    (kept-joined 4 18 (called_at 18 Line input_name inputs e.v) (kept_at 18 Line input_name inputs e.v))
+    (kept-joined 4 48 (called_at 48 Pin pin_name pins e.w) (kept_at 48 Pin pin_name pins e.w)))

@@ -10,6 +10,7 @@ use borrow.Author.Tests.{le-ltb, ne_eqb, ltb-false, eqb-true}
 use lib.Dec.{eqb}
 use lib.ListN.{length, get_or, length-append}
 use Rattle.buffers.specs.Pieces.{joined}
+use Rattle.scan.specs.declared.Between.TheVariants.{Words, Lines}
 use Rattle.scan.specs.Parts.{parts, between, before, over}
 use Rattle.scan.proofs.Parts.{parts-run, parts-byte, parts_cut, parts-end, before-byte}
 use Rattle.kinds.proofs.Names.{Word}
@@ -29,7 +30,7 @@ word-figures m l f j h =
 
 pub record Quiet (l : List ℕ) : Type 0 where
   pub comment : (x : List ℕ) → before 35 (l ++ x) ≡ l ++ before 35 x
-  pub line : (p x : List ℕ) → parts (between false) p (l ++ x) ≡ parts (between false) (p ++ l) x
+  pub line : (p x : List ℕ) → parts (between Lines) p (l ++ x) ≡ parts (between Lines) (p ++ l) x
 
 quiet_none : Quiet []
 quiet_none = record { comment = λ x. refl; line = λ p x. simp append-nil }
@@ -44,7 +45,7 @@ quiet-byte : (b : ℕ) → eqb b 35 ≡ false → eqb b 10 ≡ false → Quiet (
 unfolding between
 quiet-byte b h k = record {
   comment = λ x. before-byte 35 b x h;
-  line = λ p x. parts-byte (between false) p b x k;
+  line = λ p x. parts-byte (between Lines) p b x k;
 }
 
 quiet_word : (w : List ℕ) → Word w → Quiet w
@@ -53,7 +54,7 @@ quiet_word [] h = quiet_none
 quiet_word (b ∷ w) h =
     quiet-append (b ∷ []) w (quiet-byte b (h 0 (omega arith)).1 (line (h 0 (omega arith)).0)) (quiet_word w (λ j k. h (suc j) (omega arith)))
   where
-    line : between true b ≡ false → eqb b 10 ≡ false
+    line : between Words b ≡ false → eqb b 10 ≡ false
     line e = ne_eqb b 10 (λ q. omega (arith, ltb-false b 33 e, q))
 
 -- and few
@@ -87,7 +88,7 @@ kept-joined m (suc n) f h =
 
 -- what is read from here on, where a word may have ended just before
 unfoldable pub reads : Reading → List ℕ → Reading
-reads s l = over take_word s (parts (between true) [] l)
+reads s l = over take_word s (parts (between Words) [] l)
 
 -- nothing, or a space and more
 abbrev pub led : List ℕ → Bool
@@ -109,26 +110,26 @@ take_none s = refl
 
 pub reads_end : (s : Reading) → reads s [] ≡ s
 unfolding reads over
-reads_end s = rw (parts-end (between true) []) (take_none s)
+reads_end s = rw (parts-end (between Words) []) (take_none s)
 
 -- a word at the start of what follows
-ends-word : (s : Reading) (w l : List ℕ) → led l ≡ true → over take_word s (parts (between true) w l) ≡ reads (take_word s w) l
+ends-word : (s : Reading) (w l : List ℕ) → led l ≡ true → over take_word s (parts (between Words) w l) ≡ reads (take_word s w) l
 unfolding reads over between
-ends-word s w [] h = rw (parts-end (between true) w, parts-end (between true) []) (sym (take_none (take_word s w)))
+ends-word s w [] h = rw (parts-end (between Words) w, parts-end (between Words) []) (sym (take_none (take_word s w)))
 ends-word s w (b ∷ l) h =
     let e : b ≡ 32 = eqb-true b 32 h in
-    rw (e, parts_cut (between true) w 32 l refl, parts_cut (between true) [] 32 l refl) (ap (λ (t : Reading). over take_word t (parts (between true) [] l)) (sym (take_none (take_word s w))))
+    rw (e, parts_cut (between Words) w 32 l refl, parts_cut (between Words) [] 32 l refl) (ap (λ (t : Reading). over take_word t (parts (between Words) [] l)) (sym (take_none (take_word s w))))
 
 pub reads_word : (s : Reading) (w l : List ℕ) → Word w → led l ≡ true → reads s (w ++ l) ≡ reads (take_word s w) l
 unfolding reads
 reads_word s w l h k =
-    ap (over take_word s) (parts-run (between true) [] w l (λ j m. (h j m).0)) ∙ ends-word s w l k
+    ap (over take_word s) (parts-run (between Words) [] w l (λ j m. (h j m).0)) ∙ ends-word s w l k
 
 space : (s : Reading) (l : List ℕ) → reads s (32 ∷ l) ≡ reads s l
 unfolding reads over between
 space s l =
-    ap (over take_word s) (parts_cut (between true) [] 32 l refl)
-    ∙ ap (λ (t : Reading). over take_word t (parts (between true) [] l)) (take_none s)
+    ap (over take_word s) (parts_cut (between Words) [] 32 l refl)
+    ∙ ap (λ (t : Reading). over take_word t (parts (between Words) [] l)) (take_none s)
 
 pub reads-led : (s : Reading) (w l : List ℕ) → Word w → led l ≡ true → reads s ((32 ∷ w) ++ l) ≡ reads (take_word s w) l
 reads-led s w l h k = space s (w ++ l) ∙ reads_word s w l h k

@@ -15,11 +15,15 @@ use Rattle.buffers.proofs.Little.{part_bytes, field-small}
 use Rattle.calls.specs.declared.Event.{Event}
 use Rattle.records.specs.Records.{record_of, event_of, event_at}
 use Rattle.records.proofs.Records.{record-event}
+use Rattle.std.specs.Prelude.{None}
+use Rattle.scan.specs.declared.Between.TheVariants.{Lines}
 use Rattle.scan.specs.Parts.{parts, between, over}
 use Rattle.scan.proofs.Parts.{parts_cut}
 use Rattle.textin.specs.declared.Text.{Text}
 use Rattle.textout.specs.declared.Run.{Run}
-use Rattle.textin.specs.Texts.{lines_of, wanted_of, wanted_in, add_line, no_text, add_records}
+use Rattle.textin.specs.Readings.{line_of}
+use Rattle.textin.specs.Texts.{lines_of, among, fitting, added, add_line, no_text, records_of, add_records}
+use Rattle.textback.proofs.Takes.{said}
 use Rattle.textout.specs.Prints.{run_text, run_line, same_event, goes_on, next_run, ended_run, no_run, run_after, text_after, text_of}
 use Rattle.textin.proofs.Repeats.{repeated}
 use Rattle.textout.proofs.Runs.{goes-below}
@@ -30,7 +34,7 @@ use Rattle.textback.proofs.Lines.{kept_run, line-run}
 
 -- a good text so far
 abbrev good : ℕ → ℕ → Text
-good lines count = record { lines = lines; wanted = 0; count = count }
+good lines count = record { lines = lines; wanted = None; count = count }
 
 -- whole lines that say so many events, with these records, whatever follows them
 pub record Reads (text : List ℕ) (count : ℕ) (h : List ℕ) : Type 0 where
@@ -50,23 +54,24 @@ module _ (r : Run) (e : Ranged r.event) (z : 0 < r.times) (b : r.times < 2 ^ 32)
   unfolding lines_of run_line between
   the-line x =
       rw (ne_eqb r.times 0 (λ q. omega (arith, q)))
-      (ap (parts (between false) []) (append_assoc (run_text r.times r.event) (10 ∷ []) x)
+      (ap (parts (between Lines) []) (append_assoc (run_text r.times r.event) (10 ∷ []) x)
       ∙ (kept_run r.times r.event e).quiet.line [] (10 ∷ x)
-      ∙ parts_cut (between false) (run_text r.times r.event) 10 x refl)
+      ∙ parts_cut (between Lines) (run_text r.times r.event) 10 x refl)
 
-  the-wanted : (count : ℕ) → count + r.times ≤ 2031585 → wanted_in count (run_text r.times r.event) ≡ 0
-  unfolding wanted_of
-  the-wanted count h =
+  the-said : (count : ℕ) → count + r.times ≤ 2031585
+      → fitting count (length (run_text r.times r.event)) (line_of (run_text r.times r.event)) ≡ said r.times r.event
+  unfolding fitting among
+  the-said count h =
       let s = (kept_run r.times r.event e).short in
       rw (le-ltb 65535 (length (run_text r.times r.event)) (omega (arith, s)), line-run r.times r.event e z b, le-ltb 2031585 (count + r.times) h)
 
   add-line : (lines count : ℕ) → count + r.times ≤ 2031585
       → add_line (good lines count) (run_text r.times r.event) ≡ good ((lines + 1) % 2 ^ 64) (count + r.times)
-  unfolding add_line
-  add-line lines count h = rw (the-wanted count h, line-run r.times r.event e z b)
+  unfolding add_line added
+  add-line lines count h = rw (the-said count h)
 
   add-records : (h : List ℕ) → add_records h (run_text r.times r.event) ≡ h ++ repeated r.times r.event
-  unfolding add_records
+  unfolding add_records records_of
   add-records h = rw (line-run r.times r.event e z b)
 
   line-more : (text : List ℕ) (count : ℕ) (h : List ℕ) → count + r.times ≤ 2031585 → Reads text count h

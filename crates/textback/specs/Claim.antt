@@ -1,10 +1,11 @@
 -- docs/TEXT.md, "There and back": the text of a history is read as that history, and a text printed in parts is the text of the whole.
 -- Assumes nothing.
-use Rattle.std.specs.Prelude.{◌≡◌, Bool, true, false, List, ◌++◌, ℕ, ◌+◌, ◌*◌, ◌/◌, ◌%◌, ◌≤◌, ◌<◌, length, take, get_or}
+use Rattle.std.specs.Prelude.{◌≡◌, Bool, true, false, List, ◌++◌, ℕ, ◌+◌, ◌*◌, ◌/◌, ◌%◌, ◌≤◌, ◌<◌, length, take, get_or, Ok}
 use Rattle.history.specs.Claim.{WholeRecords}
+use Rattle.history.specs.Refusals.{result_of}
 use Rattle.textin.specs.Texts.{checked, records_in, answered, output as records_out}
 use Rattle.textout.specs.declared.Run.{Run}
-use Rattle.textout.specs.Prints.{no_run, run_after, text_of, printed_text, printed, output as text_out}
+use Rattle.textout.specs.Prints.{no_run, run_after, text_of, printed_text, printed, written_in, output as text_out}
 
 -- a list of bytes
 abbrev pub Bytes : List ℕ → Type 0
@@ -15,7 +16,7 @@ Bytes h = (j : ℕ) → get_or h j 0 < 256
 abbrev pub ReadsBack : Type 0
 ReadsBack =
     (h : List ℕ) (size : ℕ) → WholeRecords (length h) → Bytes h → length h ≤ size
-    → (answered (checked (text_of h (length h / 16))) size ≡ record { result = 0; written = length h; line = 0; wanted = 0 })
+    → (answered (checked (text_of h (length h / 16))) size ≡ Ok (length h))
     × (records_in (text_of h (length h / 16)) ≡ h)
 
 -- ---- of the promises: what `print` writes is given to `parse`, which accepts it and writes the history
@@ -23,10 +24,10 @@ ReadsBack =
 abbrev pub ThereAndBack : Type 0
 ThereAndBack =
     (h out out₂ : List ℕ) → WholeRecords (length h) → Bytes h → 320 * (length h / 16 + 1) ≤ length out → length h ≤ length out₂
-    → ((printed no_run h true (length out)).result ≡ 0)
-    × (answered (checked (take (printed no_run h true (length out)).written (text_out no_run h true out))) (length out₂)
-    ≡ record { result = 0; written = length h; line = 0; wanted = 0 })
-    × (take (length h) (records_out (take (printed no_run h true (length out)).written (text_out no_run h true out)) out₂) ≡ h)
+    → (result_of (printed no_run h true (length out)) ≡ 0)
+    × (answered (checked (take (written_in (printed no_run h true (length out))) (text_out no_run h true out))) (length out₂)
+    ≡ Ok (length h))
+    × (take (length h) (records_out (take (written_in (printed no_run h true (length out))) (text_out no_run h true out)) out₂) ≡ h)
 
 -- ---- records that are printed part by part, each with the run that the part before it left, give the text of all of them
 

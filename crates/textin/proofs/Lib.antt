@@ -1,5 +1,6 @@
+pub mod Yields
+pub mod Stages
 pub mod Inputs
-pub mod Turns
 pub mod Repeats
 pub mod Texts
 pub mod Examples

@@ -1,59 +1,105 @@
 -- Laws of texts: a bad line is the last one that counts, and a good text has as many records as events.
 -- Assumes nothing.
-use Rattle.std.proofs.Common.{◌≡◌, ℕ, ◌+◌, ◌*◌, ◌≤◌, eqb, ltb, List, [], ◌∷◌, length, refl, arith, length-append, ltb-false, eq-eqb, ne_eqb}
-use borrow.Author.Tests.{eqb-false}
-use Rattle.words.proofs.Cases.{tested}
+use Rattle.std.proofs.Common.{◌≡◌, ℕ, suc, ◌+◌, ◌*◌, ◌≤◌, ◌<◌, ◌++◌, map, get_or, take, drop, drop-cons, append-nil, Bool, true, false, cond, eqb, ltb, List, [], ◌∷◌, length, refl, sym, ap, ◌∙◌, arith, length-append, ltb-false}
+use Rattle.std.specs.Borrow.{Bor}
+use Rattle.std.proofs.lemmas.List.{map-append, take-append-drop}
+use Rattle.std.specs.Prelude.{Option, Some, None, is_some, Result, Ok, Err}
 use Rattle.buffers.specs.Pieces.{put}
 use Rattle.buffers.proofs.Put.{put-put}
-use Rattle.buffers.proofs.Joined.{split}
+use Rattle.buffers.specs.Pieces.{joined}
 use Rattle.scan.specs.Parts.{over}
+use Rattle.scan.proofs.Parts.{over-append}
 use Rattle.textin.specs.declared.Line.{Line}
 use Rattle.textin.specs.declared.Text.{Text}
+use Rattle.textin.specs.declared.Wanted.{Wanted}
+use Rattle.textin.specs.declared.Wanted.TheVariants.{FewEvents, ShortLine}
 use Rattle.textin.specs.Readings.{line_of}
-use Rattle.textin.specs.Texts.{lines_of, wanted_of, wanted_in, add_line, no_text, checked, add_records, records_in}
+use Rattle.textin.specs.Texts.{lines_of, among, fitting, added, add_line, no_text, checked, records_of, add_records, records_in}
 use Rattle.textin.proofs.Repeats.{repeated, length-repeated}
 
 -- ---- lines
 
-abbrev Few : ℕ → Line → ℕ → Type 0
-Few count l wanted = wanted ≡ 0 → count + l.times ≤ 2031585
+-- where a line is not refused the events are not too many
+module _ (count : ℕ) (m : Line) where
+  few : (t : Bool) (n : Line) → ltb 2031585 (count + n.times) ≡ t → ◌≡◌ {A = Result Line Wanted} (cond t (Err FewEvents) (Ok n)) (Ok m) → count + m.times ≤ 2031585
+  few true n h e = cc
+  few false n h e = let v : n ≡ m = cc in rw (← v) (ltb-false _ _ h)
 
--- where nothing is wanted the events are not too many
-pub wanted-none : (count size : ℕ) (l : Line) → wanted_of count size l ≡ 0 → count + l.times ≤ 2031585
-unfolding wanted_of
-wanted-none count size l =
-    tested (Few count l) (ltb 65535 size) (λ h e. absurd (omega arith))
-    (λ h. tested (Few count l) (eqb l.wanted 0)
-    (λ k. tested (Few count l) (ltb 2031585 (count + l.times)) (λ m e. absurd (omega arith)) (λ m e. ltb-false _ _ m))
-    (λ k e. absurd (eqb-false _ _ k e)))
+  few-among : (l : Result Line Wanted) → among count l ≡ Ok m → count + m.times ≤ 2031585
+  unfolding among
+  few-among (Err x) e = cc
+  few-among (Ok n) e = few (ltb 2031585 (count + n.times)) n refl e
+
+  few-short : (t : Bool) (l : Result Line Wanted) → cond t (Err ShortLine) (among count l) ≡ Ok m → count + m.times ≤ 2031585
+  few-short true l e = cc
+  few-short false l e = few-among l e
+
+  pub few-events : (size : ℕ) (l : Result Line Wanted) → fitting count size l ≡ Ok m → count + m.times ≤ 2031585
+  unfolding fitting
+  few-events size l e = few-short (ltb 65535 size) l e
 
 -- behind a bad line nothing counts
-pub bad-line : (t : Text) (l : List ℕ) → (t.wanted ≡ 0 → ⊥) → add_line t l ≡ t
+pub bad-line : (t : Text) (l : List ℕ) → is_some t.wanted ≡ true → add_line t l ≡ t
 unfolding add_line
-bad-line t l h = rw (ne_eqb t.wanted 0 h)
+bad-line t l h = rw h
 
-pub bad-lines : (t : Text) (ls : List (List ℕ)) → (t.wanted ≡ 0 → ⊥) → over add_line t ls ≡ t
+pub bad-lines : (t : Text) (ls : List (List ℕ)) → is_some t.wanted ≡ true → over add_line t ls ≡ t
 unfolding over
 bad-lines t [] h = refl
 bad-lines t (l ∷ ls) h = rw (bad-line t l h) (bad-lines t ls h)
 
 -- so a good text was good all along
-pub good-lines : (t : Text) (ls : List (List ℕ)) → (over add_line t ls).wanted ≡ 0 → t.wanted ≡ 0
-good-lines t ls k = split t.wanted 0 (λ h. omega arith) (λ h. rw (bad-lines t ls (λ e. omega arith)) at k)
+pub good-lines : (t : Text) (ls : List (List ℕ)) → (over add_line t ls).wanted ≡ None → t.wanted ≡ None
+good-lines t ls k = by t.wanted refl
+  where
+    by : (x : Option Wanted) → t.wanted ≡ x → x ≡ None
+    by None e = refl
+    by (Some x) e = let same = bad-lines t ls (ap is_some e) in rw (same, e) at k
 
--- and a good line adds its events
-pub good-line : (t : Text) (l : List ℕ) → (add_line t l).wanted ≡ 0 → (add_line t l).count ≡ t.count + (line_of l).times
-unfolding over add_line
-good-line t l k =
-    let e = eq-eqb t.wanted 0 (good-lines t (l ∷ []) k) in
-    let none : wanted_in t.count l ≡ 0 = rw e at k in
-    rw (e, none)
+-- what is said of a line that is not refused is what it says
+fitting-same : (count size : ℕ) (l : Result Line Wanted) (m : Line) → fitting count size l ≡ Ok m → l ≡ Ok m
+unfolding fitting among
+fitting-same count size (Err x) m e = short (ltb 65535 size) e
+  where
+    short : (t : Bool) → ◌≡◌ {A = Result Line Wanted} (cond t (Err ShortLine) (Err x)) (Ok m) → ◌≡◌ {A = Result Line Wanted} (Err x) (Ok m)
+    short true e = cc
+    short false e = e
+fitting-same count size (Ok n) m e = two (ltb 65535 size) (ltb 2031585 (count + n.times)) e
+  where
+    two : (s t : Bool) → ◌≡◌ {A = Result Line Wanted} (cond s (Err ShortLine) (cond t (Err FewEvents) (Ok n))) (Ok m) → ◌≡◌ {A = Result Line Wanted} (Ok n) (Ok m)
+    two true t e = cc
+    two false true e = cc
+    two false false e = e
+
+-- how many events a line has
+abbrev pub times_of : Result Line Wanted → ℕ
+times_of (Ok m) = m.times
+times_of (Err x) = 0
+
+-- a good line adds its events
+module _ (t : Text) (l : List ℕ) where
+  added-count : (r : Result Line Wanted) → fitting t.count (length l) (line_of l) ≡ r → (added t r).wanted ≡ None → (added t r).count ≡ t.count + times_of (line_of l)
+  unfolding added
+  added-count (Ok m) e k = rw (fitting-same t.count (length l) (line_of l) m e)
+  added-count (Err x) e k = cc
+
+  pub good-line : (add_line t l).wanted ≡ None → (add_line t l).count ≡ t.count + times_of (line_of l)
+  unfolding over add_line
+  good-line k =
+      let e : t.wanted ≡ None = good-lines t (l ∷ []) k in
+      let n : is_some t.wanted ≡ false = ap is_some e in
+      rw n (added-count (fitting t.count (length l) (line_of l)) refl (rw n at k))
 
 -- ---- records
 
-pub length-added : (h l : List ℕ) → length (add_records h l) ≡ length h + 16 * (line_of l).times
+length-records : (r : Result Line Wanted) → length (records_of r) ≡ 16 * times_of r
+unfolding records_of
+length-records (Ok m) = length-repeated m.times m.event
+length-records (Err x) = refl
+
+pub length-added : (h l : List ℕ) → length (add_records h l) ≡ length h + 16 * times_of (line_of l)
 unfolding add_records
-length-added h l = simp (length-append, length-repeated)
+length-added h l = simp (length-append, length-records)
 
 -- lines add records and take none away
 pub longer : (h : List ℕ) (ls : List (List ℕ)) → length h ≤ length (over add_records h ls)
@@ -61,24 +107,43 @@ unfolding over
 longer h [] = omega arith
 longer h (l ∷ ls) = omega (arith, length-added h l, longer (add_records h l) ls)
 
-pub room_for : (h l r : List ℕ) (ls : List (List ℕ)) → r ≡ over add_records (add_records h l) ls → length h + 16 * (line_of l).times ≤ length r
-room_for h l r ls e = rw e (omega (arith, length-added h l, longer (add_records h l) ls))
-
 -- the records of one line more, behind those at the start of an output
-pub added-put : (d h l : List ℕ) (at : ℕ) → at ≡ length h → at + 16 * (line_of l).times ≤ length d
-    → put (put d 0 h) at (repeated (line_of l).times (line_of l).event) ≡ put d 0 (add_records h l)
-unfolding add_records
-added-put d h l at e b =
-    put-put d 0 h (repeated (line_of l).times (line_of l).event) at (omega arith) (omega (arith, length-repeated (line_of l).times (line_of l).event))
+pub added-put : (d h l : List ℕ) (at : ℕ) (m : Line) → line_of l ≡ Ok m → at ≡ length h → at + 16 * m.times ≤ length d
+    → put (put d 0 h) at (repeated m.times m.event) ≡ put d 0 (add_records h l)
+unfolding add_records records_of
+added-put d h l at m s e b = rw s (put-put d 0 h (repeated m.times m.event) at (omega arith) (omega (arith, length-repeated m.times m.event)))
+
+-- a bad line has none
+pub added-bad : (h l : List ℕ) (x : Wanted) → line_of l ≡ Err x → add_records h l ≡ h
+unfolding add_records records_of
+added-bad h l x e = rw e (append-nil h)
+
+-- there is room for those of the line behind some lines of a text
+pub room_for : (front all : List (List ℕ)) (n : ℕ) (l : List ℕ) (m : Line) → line_of l ≡ Ok m → n < length all → front ≡ take n all → l ≡ get_or all n l
+    → length (over add_records [] front) + 16 * m.times ≤ length (over add_records [] all)
+unfolding over
+room_for front all n l m s b f e =
+    let cut : all ≡ front ++ (l ∷ drop (suc n) all) = sym (take-append-drop n all) ∙ rw (f, drop-cons all n l b, ← e) refl in
+    let whole : over add_records [] all ≡ over add_records (add_records (over add_records [] front) l) (drop (suc n) all) =
+    ap (over add_records []) cut ∙ over-append add_records [] front (l ∷ drop (suc n) all) in
+    rw whole (omega (arith, longer (add_records (over add_records [] front) l) (drop (suc n) all), rw s at (length-added (over add_records [] front) l)))
+
+-- the records of the lines so far, and with a line more
+abbrev pub so_far : List (Bor (List ℕ)) → List ℕ
+so_far ls = over add_records [] (map (λ (x : Bor (List ℕ)). x.now) ls)
+
+pub so-far-more : (ls : List (Bor (List ℕ))) (x : Bor (List ℕ)) → so_far (ls ++ (x ∷ [])) ≡ add_records (so_far ls) x.now
+unfolding over
+so-far-more ls x = rw (map-append, over-append add_records [] (map (λ (y : Bor (List ℕ)). y.now) ls) (x.now ∷ []))
 
 -- a good text has the records of as many events as were counted
-pub counted : (t : Text) (h : List ℕ) (ls : List (List ℕ)) → length h ≡ 16 * t.count → (over add_line t ls).wanted ≡ 0
+pub counted : (t : Text) (h : List ℕ) (ls : List (List ℕ)) → length h ≡ 16 * t.count → (over add_line t ls).wanted ≡ None
     → length (over add_records h ls) ≡ 16 * (over add_line t ls).count
 unfolding over
 counted t h [] e k = e
 counted t h (l ∷ ls) e k =
     counted (add_line t l) (add_records h l) ls (omega (arith, length-added h l, good-line t l (good-lines (add_line t l) ls k))) k
 
-pub records-counted : (text : List ℕ) → (checked text).wanted ≡ 0 → length (records_in text) ≡ 16 * (checked text).count
+pub records-counted : (text : List ℕ) → (checked text).wanted ≡ None → length (records_in text) ≡ 16 * (checked text).count
 unfolding checked records_in
 records-counted text = counted no_text [] (lines_of text) refl

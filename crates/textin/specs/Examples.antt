@@ -5,22 +5,25 @@ use Prim.Native.String.{String}
 use Rattle.calls.specs.Events.{call, register, lines}
 use Rattle.calls.specs.declared.Event.{Event}
 use Rattle.scan.specs.Bytes.{ascii}
+use Rattle.std.specs.Prelude.{Result, Ok, Err}
 use Rattle.textin.specs.declared.Line.{Line}
+use Rattle.textin.specs.declared.Wanted.{Wanted}
+use Rattle.textin.specs.Readings.{wanted_number}
 use Rattle.textin.specs.Readings.{line_of}
 
 pub record Example : Type 0 where
   pub text : String
-  pub says : Line
+  pub says : Result Line ℕ
 
 -- the event n times; nothing; what was wanted
 abbrev good : String → ℕ → Event → Example
-good text n e = record { text = text; says = record { wanted = 0; times = n; event = e } }
+good text n e = record { text = text; says = Ok (record { times = n; event = e }) }
 
 abbrev none : String → Example
 none text = good text 0 (call 0 0 0)
 
 abbrev bad : String → ℕ → Example
-bad text n = record { text = text; says = record { wanted = n; times = 0; event = call 0 0 0 } }
+bad text n = record { text = text; says = Err n }
 
 unfoldable pub table : List Example
 table =
@@ -60,6 +63,11 @@ table =
     ∷ bad "halt 1 *" 11 ∷ bad "halt 1 * 0" 11 ∷ bad "halt 1 * 4294967296" 11 ∷ bad "halt 1 * 2 3" 12 ∷ bad "halt * 2" 3 ∷ bad "step *2" 9
     ∷ []
 
+-- what a line says, by the number of what is wanted
+abbrev numbered : Result Line Wanted → Result Line ℕ
+numbered (Ok m) = Ok m
+numbered (Err x) = Err (wanted_number x)
+
 -- each line says what the table says
 abbrev pub Computed : Type 0
-Computed = map (λ (x : Example). line_of (ascii x.text)) table ≡ map (λ (x : Example). x.says) table
+Computed = map (λ (x : Example). numbered (line_of (ascii x.text))) table ≡ map (λ (x : Example). x.says) table

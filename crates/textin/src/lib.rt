@@ -2,6 +2,10 @@
 // Every text and every buffer is taken; a refusal leaves the output as it was.
 #![tactic(auto)]
 
+ghost use Rattle.std.specs.Prelude.{◌≡◌};
+ghost use Rattle.textin.specs.Readings.{wanted_number};
+ghost use Rattle.textin.specs.Texts.{no_text, code_of};
+
 mod reader;
 mod whole;
 
@@ -9,21 +13,81 @@ use calls::Event;
 pub use reader::read_line;
 pub use whole::{add_line, parse};
 
-// What the words of a line have said so far: where the line stands, the fields that are left in
-// octal digits, how many times, and the event.
+// What is wanted where a line is bad.
+#[derive(Clone, Copy, PartialEq, Eq, Debug)]
+pub enum Wanted {
+    // A kind, by name or by number, or `raw`.
+    FirstWord,
+    // A field behind the first word.
+    Kind,
+    Member,
+    Selector,
+    Spare,
+    V,
+    W,
+    // The star or the end of the line; behind `step` and behind an input there may be more.
+    Star,
+    InputOrV,
+    Input,
+    // How many times, or the end of the line.
+    Times,
+    End,
+    // A line, or a history, that is not too long.
+    ShortLine,
+    FewEvents,
+    // As the star, or a selector that comes last.
+    LastSelector,
+}
+
+// Its number.
+impl From<Wanted> for u8 {
+    ghost from_gives = { λ wanted number. number ≡ wanted_number wanted };
+
+    fn from(wanted: Wanted) -> u8 {
+        match wanted {
+            Wanted::FirstWord => 1,
+            Wanted::Kind => 2,
+            Wanted::Member => 3,
+            Wanted::Selector => 4,
+            Wanted::Spare => 5,
+            Wanted::V => 6,
+            Wanted::W => 7,
+            Wanted::Star => 8,
+            Wanted::InputOrV => 9,
+            Wanted::Input => 10,
+            Wanted::Times => 11,
+            Wanted::End => 12,
+            Wanted::ShortLine => 13,
+            Wanted::FewEvents => 14,
+            Wanted::LastSelector => 15,
+        }
+    }
+}
+
+// Where a line stands: at its start, before the fields that are left, in octal digits, behind
+// `step`, behind an input, behind the star, at its end; or bad, and what was wanted.
+#[derive(Clone, Copy)]
+pub enum Stage {
+    Start,
+    Fields(u32),
+    Step,
+    Inputs,
+    Times,
+    End,
+    Bad(Wanted),
+}
+
+// What the words of a line have said so far: where the line stands, how many times, and the event.
 #[derive(Clone, Copy)]
 pub struct Reading {
-    pub stage: u32,
-    pub left: u32,
+    pub stage: Stage,
     pub times: u32,
     pub event: Event,
 }
 
-// What a line says: the event so many times, none where it has no words; or what was wanted, if it
-// is bad.
+// What a good line says: the event so many times, none where it has no words.
 #[derive(Clone, Copy)]
 pub struct Line {
-    pub wanted: u32,
     pub times: u32,
     pub event: Event,
 }
@@ -33,22 +97,46 @@ pub struct Line {
 #[derive(Clone, Copy)]
 pub struct Text {
     pub lines: u64,
-    pub wanted: u32,
+    pub wanted: Option<Wanted>,
     pub count: u64,
+}
+
+impl Text {
+    // A text without a line.
+    pub fn new() -> Text
+        ensures { result ≡ no_text }
+    {
+        Text {
+            lines: 0,
+            wanted: None,
+            count: 0,
+        }
+    }
 }
 
 // A text with one more line, and what this line says.
 #[derive(Clone, Copy)]
 pub struct Added {
     pub text: Text,
-    pub line: Line,
+    pub line: Result<Line, Wanted>,
 }
 
-// The answer to a text: result and written bytes, and of a bad line the number and what was wanted.
-#[derive(Clone, Copy)]
-pub struct Parsed {
-    pub result: u8,
-    pub written: usize,
-    pub line: u64,
-    pub wanted: u32,
+// Why a text is refused: a bad line, by its number, and what was wanted there; or no room for the
+// records.
+#[derive(Clone, Copy, PartialEq, Eq, Debug)]
+pub enum Refusal {
+    BadLine(u64, Wanted),
+    NoRoom,
+}
+
+// The result that a refusal is told as.
+impl From<Refusal> for u8 {
+    ghost from_gives = { λ refusal number. number ≡ code_of refusal };
+
+    fn from(refusal: Refusal) -> u8 {
+        match refusal {
+            Refusal::BadLine(_, _) => 11,
+            Refusal::NoRoom => 10,
+        }
+    }
 }

@@ -3,34 +3,30 @@ ghost use Rattle.std.specs.Prelude.{◌≡◌, ◌+◌, ◌*◌, ◌≤◌, leng
 ghost use Rattle.buffers.specs.Pieces.{put, joined};
 ghost use Rattle.records.specs.Records.{record_of};
 ghost use Rattle.textin.specs.Readings.{line_of};
-ghost use Rattle.textin.specs.Texts.{wanted_of, add_line, checked, records_in, answered, output};
+ghost use Rattle.textin.specs.Texts.{fitting, add_line, checked, records_in, answered, output};
 
-use crate::{Added, Line, Parsed, Text, reader};
+use crate::{Added, Line, Refusal, Text, Wanted, reader};
 use buffers::RECORD;
-use calls::Event;
+use scan::Between;
 
 // The bytes of the longest line, and the events of the longest history.
 const LONGEST: usize = 65535;
 
 const MOST: u64 = history::RECORDS as u64;
 
-// What is wanted in a line of so many bytes that follows so many events.
-fn wanted_in(count: u64, size: usize, line: Line) -> u32
-    ensures { result ≡ wanted_of count size line }
+// What a line of so many bytes says behind so many events, if it is not too long and its events are
+// not too many.
+fn fitting(count: u64, size: usize, line: Result<Line, Wanted>) -> Result<Line, Wanted>
+    ensures { result ≡ fitting count size line }
 {
     if size > LONGEST {
-        return 13;
+        return Err(Wanted::ShortLine);
     }
-    if line.wanted != 0 {
-        return line.wanted;
+    let said = line?;
+    if count.saturating_add(said.times as u64) > MOST {
+        return Err(Wanted::FewEvents);
     }
-    if count > MOST {
-        return 14;
-    }
-    if line.times as u64 > MOST - count {
-        return 14;
-    }
-    0
+    Ok(said)
 }
 
 // One line more.
@@ -39,66 +35,43 @@ pub fn add_line(t: Text, l: &[u8]) -> Added
     ensures line { result.line ≡ line_of l.now }
 {
     let line = reader::read_line(l);
-    if t.wanted != 0 {
-        return Added {
-            text: t,
-            line: line,
-        };
+    if t.wanted.is_some() {
+        return Added { text: t, line };
     }
-    let wanted = wanted_in(t.count, l.len(), line);
-    let lines = std::num::wrapping_add_u64(t.lines, 1);
-    if wanted != 0 {
-        return Added {
-            text: Text {
-                lines: lines,
-                wanted: wanted,
-                count: t.count,
-            },
-            line: line,
-        };
-    }
-    Added {
-        text: Text {
-            lines: lines,
-            wanted: 0,
-            count: t.count + line.times as u64,
+    let lines = t.lines.wrapping_add(1);
+    let text = match fitting(t.count, l.len(), line) {
+        Ok(said) => Text {
+            lines,
+            wanted: None,
+            count: t.count + said.times as u64,
         },
-        line: line,
-    }
+        Err(wanted) => Text {
+            lines,
+            wanted: Some(wanted),
+            count: t.count,
+        },
+    };
+    Added { text, line }
 }
 
 // All lines of a text.
 fn check(text: &[u8]) -> Text
     ensures { result ≡ checked text.now }
 {
-    let mut t = Text {
-        lines: 0,
-        wanted: 0,
-        count: 0,
-    };
-    let mut from: usize = 0;
-    while from <= text.len() {
-        let to = scan::part_end(text, from, false);
-        let added = add_line(t, &text[from..to]);
-        t = added.text;
-        from = to + 1;
-    }
-    t
+    text.split(|&b| Between::Lines.splits(b))
+        .fold(Text::new(), |t, l| add_line(t, l).text)
 }
 
-// The record of an event so many times, from place `at` on, and the place behind them.
-fn put_records(out: &mut [u8], at: usize, times: u32, e: Event) -> usize
-    requires { at + 16 * times ≤ length out.old }
-    ensures { (result ≡ at + 16 * times) × (out.new ≡ put out.old at (joined times (λ j. record_of e))) }
+// The records of what a line says, from place `at` on, and the place behind them: the loop goes by the
+// number, from which each place is found.
+fn put_records(out: &mut [u8], at: usize, line: Line) -> usize
+    requires { at + 16 * line.times ≤ length out.old }
+    ensures { (result ≡ at + 16 * line.times) × (out.new ≡ put out.old at (joined line.times (λ j. record_of line.event))) }
 {
-    let mut to = at;
-    let mut i: u32 = 0;
-    while i < times {
-        records::put_record(out, to, e);
-        to += RECORD;
-        i += 1;
+    for i in 0..line.times {
+        records::put_record(out, at + RECORD * i as usize, line.event);
     }
-    to
+    at + RECORD * line.times as usize
 }
 
 // The records of a text that was found good.
@@ -107,43 +80,26 @@ fn write(text: &[u8], out: &mut [u8])
     ensures { out.new ≡ put out.old 0 (records_in text.now) }
 {
     let mut at: usize = 0;
-    let mut from: usize = 0;
-    while from <= text.len() {
-        let to = scan::part_end(text, from, false);
-        let line = reader::read_line(&text[from..to]);
-        at = put_records(out, at, line.times, line.event);
-        from = to + 1;
+    for l in text.split(|&b| Between::Lines.splits(b)) {
+        if let Ok(line) = reader::read_line(l) {
+            at = put_records(out, at, line);
+        }
     }
 }
 
-// The records of a text, at the start of out: result 11 where a line is bad or the events are too
-// many, 10 where out is too short.
-pub fn parse(text: &[u8], out: &mut [u8]) -> Parsed
+// The records of a text, at the start of out, and their length; or why it is refused: a line is bad
+// or the events are too many, else out is too short.
+pub fn parse(text: &[u8], out: &mut [u8]) -> Result<usize, Refusal>
     ensures answer { result ≡ answered (checked text.now) (length out.old) }
     ensures wrote { out.new ≡ output text.now out.old }
 {
     let t = check(text);
-    if t.wanted != 0 {
-        return Parsed {
-            result: 11,
-            written: 0,
-            line: t.lines,
-            wanted: t.wanted,
-        };
+    if let Some(wanted) = t.wanted {
+        return Err(Refusal::BadLine(t.lines, wanted));
     }
     if ((out.len() / RECORD) as u64) < t.count {
-        return Parsed {
-            result: 10,
-            written: 0,
-            line: 0,
-            wanted: 0,
-        };
+        return Err(Refusal::NoRoom);
     }
     write(text, out);
-    Parsed {
-        result: 0,
-        written: RECORD * t.count as usize,
-        line: 0,
-        wanted: 0,
-    }
+    Ok(RECORD * t.count as usize)
 }

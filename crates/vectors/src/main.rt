@@ -19,16 +19,22 @@
 // of a log the line's number, what was expected and what came.
 #![tactic(auto)]
 
-ghost use Rattle.std.specs.Prelude.{◌≡◌, ◌+◌, ◌<◌, ◌≤◌, length};
+ghost use Rattle.std.specs.Prelude.{◌≤◌, length};
 
 use account::{Audit, Balance};
-use board::{Board, CHANNELS};
+use arrayvec::ArrayString;
+use board::Board;
 use buffers::RECORD;
-use history::{AREA, BLOCK, Transfer};
+use history::{AREA, BLOCK, Refusal};
 use room::Needs;
+use scan::Between;
+use std::fmt::Write;
 
 // What an output is filled with before a test.
 const MARK: u8 = 0xa5;
+
+// The size of all buffers.
+const SIZE: usize = 65536;
 
 // What a table's row asks for: room, result, bytes. In a `long` row these are the bytes behind the
 // blocks, the result and the place.
@@ -37,23 +43,38 @@ struct Row {
     room: usize,
     result: u64,
     bytes: u64,
+    ghost within: { room ≤ 65536 },
 }
 
-// A number in a row, and the place behind it.
+// A test of the table: the name of its files or the number behind its first word, and its row.
 #[derive(Clone, Copy)]
-struct Number {
-    value: u64,
-    next: usize,
+enum Test<'a> {
+    Log(&'a [u8]),
+    Read(&'a [u8], Row),
+    Write(u64, Row),
+    Audit(&'a [u8]),
+    Needs(&'a [u8]),
+    Turn(&'a [u8]),
+    Long(u64, Row),
+}
+
+// The buffers of a test.
+#[derive(Drop)]
+struct Space {
+    file: [u8; SIZE],
+    out: [u8; SIZE],
+    back: [u8; SIZE],
 }
 
 // The board after the sound places, how many these are, the length of the log, and the result of
-// the last place.
+// the last place, a number as the rows have it.
 #[derive(Clone, Copy)]
 struct State {
     board: Board,
     place: u32,
     at: usize,
     result: u8,
+    ghost within: { at ≤ 65536 },
 }
 
 // How long a column file is, and how long it is with the line of the bad place behind it.
@@ -61,37 +82,15 @@ struct State {
 struct Turned {
     file: usize,
     all: usize,
+    ghost order: { file ≤ all },
+    ghost within: { all ≤ 65536 },
 }
-
-// The size of all buffers.
-const SIZE: usize = 65536;
 
 // A number as a length that fits a buffer.
 fn size(n: u64) -> usize
     ensures { result ≤ 65536 }
 {
-    if n <= 65536 { n as usize } else { SIZE }
-}
-
-// Marks a whole buffer.
-fn mark(out: &mut [u8]) {
-    let mut i: usize = 0;
-    while i < out.len() {
-        out[i] = MARK;
-        i += 1;
-    }
-}
-
-// Whether all bytes from place `at` on are b.
-fn all_from(buf: &[u8], at: usize, b: u8) -> bool {
-    let mut i = at;
-    while i < buf.len() {
-        if buf[i] != b {
-            return false;
-        }
-        i += 1;
-    }
-    true
+    n.min(SIZE as u64) as usize
 }
 
 // How many first bytes two texts have in common.
@@ -99,45 +98,25 @@ fn common(a: &[u8], b: &[u8]) -> usize
     ensures first { result ≤ length a.now }
     ensures second { result ≤ length b.now }
 {
-    let mut i: usize = 0;
-    while i < a.len() {
-        if i >= b.len() {
-            return i;
-        }
-        if a[i] != b[i] {
-            return i;
-        }
-        i += 1;
-    }
-    i
+    a.iter().zip(b).take_while(|(x, y)| x == y).count()
 }
 
 // Reads the file of the given name and ending into buf, and answers its length. Where it is not read
-// whole, that is told.
-fn load(rt: HostRuntime, name: &[u8], ending: &[u8], buf: &mut [u8]) -> usize
-    requires { length buf.old ≡ 65536 }
-    ensures { result ≤ length buf.new }
+// whole, that is told. Names stay bytes: the table need not be UTF-8.
+fn load(rt: HostRuntime, name: &[u8], ending: &[u8], buf: &mut [u8; SIZE]) -> usize
+    ensures { result ≤ 65536 }
 {
-    let got = streams::load(rt, name, ending, buf);
-    if got.error != 0 {
-        let _ = rt.write_all(b": a file is missing or not read whole;");
+    match streams::load(rt, name, ending, buf) {
+        Ok(n) => n,
+        Err(cut) => {
+            let _ = print!(rt; ": a file is missing or not read whole;");
+            cut.count
+        }
     }
-    got.count
-}
-
-// Where the block that starts at `from` ends in a file of n bytes.
-fn block_end(from: usize, n: usize) -> usize
-    requires { from < n }
-    ensures after { from < result }
-    ensures within { result ≤ n }
-{
-    if n - from > BLOCK { from + BLOCK } else { n }
 }
 
 // The state before the first place.
-fn start() -> State
-    ensures { (result.place ≡ 0) × (result.at ≡ 0) }
-{
+fn start() -> State {
     State {
         board: board::reset(),
         place: 0,
@@ -146,50 +125,33 @@ fn start() -> State
     }
 }
 
-// The number of sound places after one more place with the given result.
-fn sound_places(place: u32, res: u8) -> u32
-    requires { place ≤ 65536 }
-    ensures { result ≤ place + 1 }
-{
-    if res == 0 { place + 1 } else { place }
-}
-
-// Adds the lines of the next place to the log.
-fn log_place(s: State, bytes: &[u8], more: bool, out: &mut [u8]) -> State
-    requires place_bound { s.place ≤ 65536 }
-    requires at_bound { s.at ≤ 65536 }
-    requires out_len { length out.old ≡ 65536 }
-    ensures places { result.place ≤ s.place + 1 }
-    ensures place { result.at ≤ 65536 }
-{
-    let at = s.at;
-    let board = s.board;
-    let p = loglines::print_place(board, s.place, bytes, more, &mut out[at..]);
-    let to = at + p.written;
-    let next = p.board;
-    State {
-        board: next,
-        place: sound_places(s.place, p.result),
-        at: to,
-        result: p.result,
+impl State {
+    // With the lines of the next place in the log.
+    fn log_place(self, bytes: &[u8], more: bool, out: &mut [u8; SIZE]) -> State {
+        let p = loglines::print_place(self.board, self.place, bytes, more, &mut out[self.at..]);
+        State {
+            board: p.board,
+            place: self.place.saturating_add(u32::from(p.refusal.is_none())),
+            at: self.at + p.written,
+            result: match p.refusal {
+                Some(refusal) => u8::from(refusal),
+                None => 0,
+            },
+        }
     }
 }
 
 // The log of a whole file, at the start of out, and its length.
-fn log_file(file: &[u8], out: &mut [u8]) -> usize
-    requires file_len_bound { length file.now ≤ 65536 }
-    requires out_len { length out.old ≡ 65536 }
-    ensures { result ≤ length out.new }
+fn log_file(file: &[u8], out: &mut [u8; SIZE]) -> usize
+    ensures { result ≤ 65536 }
 {
+    let last = file.len().saturating_sub(1) / BLOCK;
     let mut s = start();
-    let mut from: usize = 0;
-    while from < file.len() {
+    for (i, bytes) in file.chunks(BLOCK).enumerate() {
+        s = s.log_place(bytes, i < last, out);
         if s.result != 0 {
-            return s.at;
+            break;
         }
-        let to = block_end(from, file.len());
-        s = log_place(s, &file[from..to], to < file.len(), out);
-        from = to;
     }
     s.at
 }
@@ -202,64 +164,38 @@ fn steps_block(number: u32) -> [u8; BLOCK] {
     block
 }
 
-// The log of n blocks of accepted steps, where more bytes follow them or none.
-fn log_blocks(n: u32, more: bool, out: &mut [u8]) -> State
-    requires n_bound { n ≤ 65536 }
-    requires out_len { length out.old ≡ 65536 }
-    ensures places { result.place ≤ 65536 }
-    ensures place { result.at ≤ 65536 }
-{
+// The log of n blocks of accepted steps and of the bytes behind them.
+fn log_long(n: u32, tail: &[u8], out: &mut [u8; SIZE]) -> State {
     let mut s = start();
-    let mut i: u32 = 0;
-    while i < n {
+    // The blocks are made one by one and not kept, so there are only their numbers to walk over.
+    for i in 0..n {
+        let more = i < n - 1 || !tail.is_empty();
+        s = s.log_place(&steps_block(i), more, out);
         if s.result != 0 {
             return s;
         }
-        let block = steps_block(i);
-        i += 1;
-        s = log_place(s, &block, more | (i < n), out);
     }
-    s
-}
-
-// The log of n blocks of accepted steps and of the bytes behind them.
-fn log_long(n: u32, tail: &[u8], out: &mut [u8]) -> State
-    requires n_bound { n ≤ 65536 }
-    requires out_len { length out.old ≡ 65536 }
-    ensures { result.at ≤ 65536 }
-{
-    let s = log_blocks(n, tail.len() > 0, out);
-    if (s.result != 0) | (tail.len() == 0) {
+    if tail.is_empty() {
         return s;
     }
-    log_place(s, tail, false, out)
+    s.log_place(tail, false, out)
 }
 
 // Whether a log is the line of a place alone, and empty for result 0.
 fn is_place_line(place: u32, res: u8, log: &[u8]) -> bool {
     if res == 0 {
-        return log.len() == 0;
+        return log.is_empty();
     }
-    let mut line = [0u8; 48];
-    buffers::copy_to(b"block ", &mut line, 0);
-    let at = text::put_entry(&mut line, 6, place as u64, b' ');
-    let end = text::put_entry(&mut line, at, res as u64, b'\n');
-    scan::same(&line[..end], log)
+    let mut line = ArrayString::<48>::new();
+    writeln!(line, "block {place} {res}").is_ok() && line.as_str().as_bytes() == log
 }
 
-// The number of the line that place `at` is in, counted from 1.
-fn line_number(text: &[u8], at: usize) -> u64
+// The number of the line that place `at` is in, counted from 1. A place is a number, here and below,
+// since it is that of two texts, and the line around it has bytes on both its sides.
+fn line_number(text: &[u8], at: usize) -> usize
     requires { at ≤ length text.now }
 {
-    let mut n: u64 = 1;
-    let mut i: usize = 0;
-    while i < at {
-        if text[i] == b'\n' {
-            n = std::num::wrapping_add_u64(n, 1);
-        }
-        i += 1;
-    }
-    n
+    1 + text[..at].iter().filter(|b| **b == b'\n').count()
 }
 
 // The place at which the line of place `at` starts.
@@ -267,135 +203,101 @@ fn line_start(text: &[u8], at: usize) -> usize
     requires { at ≤ length text.now }
     ensures { result ≤ at }
 {
-    let mut i = at;
-    while i > 0 {
-        if text[i - 1] == b'\n' {
-            return i;
-        }
-        i -= 1;
+    match text[..at].iter().rposition(|b| *b == b'\n') {
+        Some(i) => i + 1,
+        None => 0,
     }
-    i
 }
 
 // Prints the line of place `at`, or that there is none.
-fn show_line(rt: HostRuntime, text: &[u8], at: usize)
+fn show_line(rt: &impl Print, text: &[u8], at: usize)
     requires { at ≤ length text.now }
 {
     let from = line_start(text, at);
-    if from == text.len() {
-        let _ = rt.write_all(b"    nothing\n");
-        return;
-    }
-    let to = scan::part_end(text, from, false);
-    let _ = rt.write_all(b"    ");
-    let _ = rt.write_all(&text[from..to]);
-    let _ = rt.write_all(b"\n");
+    let _ = print!(rt; "    ");
+    let _ = match text[from..].split(|b| *b == b'\n').next() {
+        Some(line) if from < text.len() => rt.write_all(line),
+        _ => rt.write_all(b"nothing"),
+    };
+    let _ = println!(rt; "");
 }
 
 // Compares a log with what is expected.
-fn compare(rt: HostRuntime, expected: &[u8], came: &[u8]) {
-    if scan::same(expected, came) {
-        let _ = rt.write_all(b" ok\n");
+fn compare(rt: &impl Print, expected: &[u8], came: &[u8]) {
+    if expected == came {
+        let _ = println!(rt; " ok");
         return;
     }
     let at = common(expected, came);
-    let _ = rt.write_all(b" differs in line ");
     let number = line_number(expected, at);
-    let _ = print!(rt; "{number}");
-    let _ = rt.write_all(b"\n  expected\n");
+    let _ = println!(rt; " differs in line {number}\n  expected");
     show_line(rt, expected, at);
-    let _ = rt.write_all(b"  came\n");
+    let _ = println!(rt; "  came");
     show_line(rt, came, at);
 }
 
 // `log NAME`.
-fn test_log(rt: HostRuntime, name: &[u8], file: &mut [u8], log: &mut [u8], out: &mut [u8])
-    requires file_len { length file.old ≡ 65536 }
-    requires log_len { length log.old ≡ 65536 }
-    requires out_len { length out.old ≡ 65536 }
-{
-    let n = load(rt, name, b".hist", file);
-    let m = load(rt, name, b".log", log);
-    let w = log_file(&file[..n], out);
-    compare(rt, &log[..m], &out[..w]);
+fn test_log(rt: HostRuntime, name: &[u8], s: &mut Space) {
+    let n = load(rt, name, b".hist", &mut s.file);
+    let m = load(rt, name, b".log", &mut s.back);
+    let w = log_file(&s.file[..n], &mut s.out);
+    compare(&rt, &s.back[..m], &s.out[..w]);
 }
 
 // The column file of a row file, and behind it the line of a bad place, at the start of out.
-fn turn_file(file: &[u8], out: &mut [u8]) -> Turned
-    requires file_len_bound { length file.now ≤ 65536 }
-    requires out_len { length out.old ≡ 65536 }
-    ensures within { result.all ≤ 65536 }
-    ensures order { result.file ≤ result.all }
-{
-    let mut place: u32 = 0;
-    let mut from: usize = 0;
-    let mut at: usize = 0;
-    while from < file.len() {
-        let to = block_end(from, file.len());
-        let more = to < file.len();
-        let t = turn::turn_place(place, &file[from..to], more, &mut out[at..]);
-        let end = at + t.written;
-        if t.result != 0 {
-            return Turned { file: at, all: end };
+fn turn_file(file: &[u8], out: &mut [u8; SIZE]) -> Turned {
+    let last = file.len().saturating_sub(1) / BLOCK;
+    let mut at = 0;
+    for (bytes, place) in file.chunks(BLOCK).zip(0u32..) {
+        let more = (place as usize) < last;
+        match turn::turn_place(place, bytes, more, &mut out[at..]) {
+            Ok(n) => at += n,
+            Err(bad) => {
+                let all = at + bad.written;
+                return Turned { file: at, all };
+            }
         }
-        at = end;
-        from = to;
-        place += 1;
     }
     Turned { file: at, all: at }
 }
 
 // `turn NAME`.
-fn test_turn(rt: HostRuntime, name: &[u8], file: &mut [u8], log: &mut [u8], out: &mut [u8])
-    requires file_len { length file.old ≡ 65536 }
-    requires log_len { length log.old ≡ 65536 }
-    requires out_len { length out.old ≡ 65536 }
-{
+fn test_turn(rt: HostRuntime, name: &[u8], s: &mut Space) {
+    let Space { file, out, back } = s;
     let n = load(rt, name, b".hist", file);
-    let m = load(rt, name, b".log", log);
+    let m = load(rt, name, b".log", back);
     let t = turn_file(&file[..n], out);
-    let from = t.file;
-    let to = t.all;
-    let w = log_file(&out[..from], file);
-    if to - from > SIZE - w {
-        let _ = rt.write_all(b" is too long\n");
+    let w = log_file(&out[..t.file], file);
+    let line = &out[t.file..t.all];
+    if line.len() > SIZE - w {
+        let _ = println!(rt; " is too long");
         return;
     }
-    buffers::copy_to(&out[from..to], file, w);
-    let all = w + (to - from);
-    compare(rt, &log[..m], &file[..all]);
+    let all = w + line.len();
+    file[w..all].copy_from_slice(line);
+    compare(&rt, &back[..m], &file[..all]);
 }
 
 // Tells `ok`, or what came in place of a row's result and last number.
-fn verdict(rt: HostRuntime, row: Row, res: u8, written: usize, sound: bool) {
-    if sound & (res as u64 == row.result) & (written as u64 == row.bytes) {
-        let _ = rt.write_all(b" ok\n");
+fn verdict(rt: &impl Print, row: Row, res: u8, written: usize, sound: bool) {
+    if sound && res as u64 == row.result && written as u64 == row.bytes {
+        let _ = println!(rt; " ok");
         return;
     }
-    let _ = rt.write_all(b" differs: came ");
-    let _ = print!(rt; "{res}");
-    let _ = rt.write_all(b" ");
-    let _ = print!(rt; "{written}");
-    if !sound {
-        let _ = rt.write_all(b", output or way back wrong");
-    }
-    let _ = rt.write_all(b"\n");
+    let way = if sound {
+        ""
+    } else {
+        ", output or way back wrong"
+    };
+    let _ = println!(rt; " differs: came {res} {written}{way}");
 }
 
 // Whether a transfer was accepted and left what is expected at the start of out.
-fn gives(t: Transfer, expected: &[u8], out: &[u8]) -> bool {
-    let n = t.written;
-    if n > out.len() {
-        return false;
-    }
-    if t.result == 0 {
-        scan::same(expected, &out[..n])
-    } else {
-        false
-    }
+fn gives(t: Result<usize, Refusal>, expected: &[u8], out: &[u8]) -> bool {
+    t.is_ok_and(|n| out.get(..n) == Some(expected))
 }
 
-// Whether the history, written, gives the file.
+// Whether the history, written, gives the file; and the other way round below, as each test hands one in.
 fn writes_as(h: &[u8], file: &[u8], out: &mut [u8]) -> bool {
     let t = history::write(h, out);
     gives(t, file, out)
@@ -407,351 +309,240 @@ fn reads_as(file: &[u8], h: &[u8], out: &mut [u8]) -> bool {
     gives(t, h, out)
 }
 
-// Whether a record, decoded and encoded, is the same.
-fn is_recoded(bytes: &[u8]) -> bool
-    requires { length bytes.now ≡ 16 }
-{
-    let mut copy = [0u8; 16];
-    buffers::copy_to(bytes, &mut copy, 0);
-    let again = records::encode(records::decode(&copy));
-    scan::same(bytes, &again)
-}
-
 // Whether a history is of whole records, each the same after it is decoded and encoded.
 fn recoded(h: &[u8]) -> bool {
-    let mut at: usize = 0;
-    while h.len() - at >= 16 {
-        let next = at + 16;
-        if !is_recoded(&h[at..next]) {
-            return false;
-        }
-        at = next;
-    }
-    at == h.len()
+    let (all, rest) = h.as_chunks::<RECORD>();
+    rest.is_empty()
+        && all
+            .iter()
+            .all(|r| records::encode(records::decode(r)) == *r)
 }
 
 // Whether some records, printed as text and read again, are the same.
 fn is_reprinted(h: &[u8], text: &mut [u8]) -> bool {
     let mut back = [0u8; AREA];
-    let none = textout::no_run();
-    let p = textout::print(none, h, true, text);
-    let n = p.written;
-    if n > text.len() {
+    let Ok(p) = textout::print(textout::no_run(), h, true, text) else {
         return false;
-    }
-    let q = textin::parse(&text[..n], &mut back);
-    let w = q.written;
-    if w > AREA {
+    };
+    let Some(printed) = text.get(..p.written) else {
         return false;
+    };
+    match textin::parse(printed, &mut back) {
+        Ok(n) => back.get(..n) == Some(h),
+        Err(_) => false,
     }
-    scan::same(h, &back[..w])
 }
 
-// Whether the records of a history are the same, printed as text and read again block by block.
+// Whether no records, and the records of a history block by block, are the same, printed as text and
+// read again.
 fn reprinted(h: &[u8], text: &mut [u8]) -> bool {
-    let mut at: usize = 0;
-    while h.len() - at > AREA {
-        let next = at + AREA;
-        if !is_reprinted(&h[at..next], text) {
+    for records in h.chunks(AREA) {
+        if !is_reprinted(records, text) {
             return false;
         }
-        at = next;
     }
-    is_reprinted(&h[at..], text)
+    is_reprinted(&[], text)
 }
 
 // Whether a history that was read from a file is the same on each way back.
 fn comes_back(h: &[u8], file: &[u8], out: &mut [u8]) -> bool {
-    recoded(h) & reprinted(h, out) & writes_as(h, file, out)
+    recoded(h) && reprinted(h, out) && writes_as(h, file, out)
+}
+
+// Tests a transfer into a row's room: what it writes past its end, and, if it is accepted, whether
+// what it wrote gives on its way back what it was made of.
+fn test_transfer<T: FnOnce(&mut [u8]) -> Result<usize, Refusal>, B: FnOnce(&[u8]) -> bool>(
+    rt: &impl Print,
+    row: Row,
+    out: &mut [u8; SIZE],
+    transfer: T,
+    comes_back: B,
+)
+    requires transfer { T.IsAlwaysCallable transfer }
+    requires way_back { B.IsAlwaysCallable comes_back }
+{
+    out.fill(MARK);
+    let t = transfer(&mut out[..row.room]);
+    let w = t.unwrap_or(0);
+    let sound = w <= row.room
+        && out[w..].iter().all(|b| *b == MARK)
+        && (t.is_err() || comes_back(&out[..w]));
+    let res = match t {
+        Ok(_) => 0,
+        Err(refusal) => u8::from(refusal),
+    };
+    verdict(rt, row, res, w, sound);
 }
 
 // `read NAME ROOM RESULT BYTES`.
-fn test_read(
-    rt: HostRuntime,
-    name: &[u8],
-    row: Row,
-    file: &mut [u8],
-    out: &mut [u8],
-    back: &mut [u8],
-)
-    requires file_len { length file.old ≡ 65536 }
-    requires out_len { length out.old ≡ 65536 }
-    requires back_len { length back.old ≡ 65536 }
-    requires room_bound { row.room ≤ 65536 }
-{
-    let n = load(rt, name, b".hist", file);
-    let room = row.room;
-    mark(out);
-    let t = history::read(&file[..n], &mut out[..room]);
-    let w = t.written;
-    if w > room {
-        verdict(rt, row, t.result, w, false);
-        return;
-    }
-    let kept = all_from(out, w, MARK);
-    if t.result != 0 {
-        verdict(rt, row, t.result, w, kept);
-        return;
-    }
-    verdict(
-        rt,
+fn test_read(rt: HostRuntime, name: &[u8], row: Row, s: &mut Space) {
+    let n = load(rt, name, b".hist", &mut s.file);
+    let file = &s.file[..n];
+    let back = &mut s.back;
+    test_transfer(
+        &rt,
         row,
-        0,
-        w,
-        kept & comes_back(&out[..w], &file[..n], back),
+        &mut s.out,
+        |out| history::read(file, out),
+        |h| comes_back(h, file, back),
+    );
+}
+
+// `write LENGTH ROOM RESULT BYTES`.
+fn test_write(rt: HostRuntime, n: usize, row: Row, s: &mut Space)
+    requires { n ≤ 65536 }
+{
+    s.file[..n].fill(0);
+    let h = &s.file[..n];
+    let back = &mut s.back;
+    test_transfer(
+        &rt,
+        row,
+        &mut s.out,
+        |out| history::write(h, out),
+        |file| reads_as(file, h, back),
     );
 }
 
 // The board and the accounts after the records of a history.
 fn audited(h: &[u8]) -> Audit {
-    let mut a = account::start();
-    let n = h.len() / RECORD;
-    for i in 0..n {
-        a = a.send(records::event_at(h, RECORD * i));
-    }
-    a
-}
-
-// Prints a space and a number.
-fn show_number(rt: HostRuntime, n: u64) {
-    let _ = rt.write_all(b" ");
-    let _ = print!(rt; "{n}");
-}
-
-// Prints the account of a channel.
-fn show_balance(rt: HostRuntime, channel: usize, n: Balance) {
-    let _ = rt.write_all(b" ");
-    show_number(rt, channel as u64);
-    show_number(rt, n.made);
-    show_number(rt, n.handed);
-    show_number(rt, n.held);
-    show_number(rt, n.reported);
-    show_number(rt, n.unreported);
-    let _ = rt.write_all(b"\n");
+    let (all, _) = h.as_chunks::<RECORD>();
+    all.iter()
+        .fold(account::start(), |a, r| a.send(records::decode(r)))
 }
 
 // Prints the account of each channel that has one.
-fn show_accounts(rt: HostRuntime, a: Audit) {
-    let accounts = a.accounts;
-    let board = a.board;
-    let channels = board.channels;
-    for i in 0..CHANNELS {
-        let n = account::balance_of(accounts[i], channels[i]);
-        if (n.made | n.handed | n.held | n.reported | n.unreported) != 0 {
-            show_balance(rt, i, n);
+fn show_accounts(rt: &impl Print, a: Audit) {
+    for (i, (account, c)) in a.accounts.iter().zip(&a.board.channels).enumerate() {
+        let n = account::balance_of(*account, *c);
+        let Balance {
+            made,
+            handed,
+            held,
+            reported,
+            unreported,
+        } = n;
+        if [made, handed, held, reported, unreported] != [0; 5] {
+            let _ = println!(rt; "  {i} {made} {handed} {held} {reported} {unreported}");
+        }
+    }
+}
+
+// The history of a file, if it is read; else that is told.
+fn history_of<'a>(rt: &impl Print, file: &[u8], out: &'a mut [u8; SIZE]) -> Option<&'a [u8]> {
+    match history::read(file, out) {
+        Ok(n) => Some(&out[..n]),
+        Err(_) => {
+            let _ = println!(rt; " is not read");
+            None
         }
     }
 }
 
 // `audit NAME`.
-fn test_audit(rt: HostRuntime, name: &[u8], file: &mut [u8], out: &mut [u8])
-    requires file_len { length file.old ≡ 65536 }
-    requires out_len { length out.old ≡ 65536 }
-{
-    let n = load(rt, name, b".hist", file);
-    let t = history::read(&file[..n], out);
-    let w = t.written;
-    if t.result == 0 {
-        if w <= SIZE {
-            let _ = rt.write_all(b"\n");
-            show_accounts(rt, audited(&out[..w]));
-            return;
-        }
+fn test_audit(rt: HostRuntime, name: &[u8], s: &mut Space) {
+    let n = load(rt, name, b".hist", &mut s.file);
+    if let Some(h) = history_of(&rt, &s.file[..n], &mut s.out) {
+        let _ = println!(rt; "");
+        show_accounts(&rt, audited(h));
     }
-    let _ = rt.write_all(b" is not read\n");
 }
 
 // Whether a history of n records, a file of so many bytes and a log are as it is told.
 fn meets(needs: Needs, n: usize, bytes: usize, log: &[u8]) -> bool {
     let lines = needs.lines as u64;
-    (BLOCK as u64 * needs.blocks as u64 == bytes as u64)
-        & (needs.steps as u64 + lines == n as u64)
-        & (lines + 1 == line_number(log, log.len()))
-        & (log.len() as u64 <= needs.bytes as u64)
+    BLOCK as u64 * needs.blocks as u64 == bytes as u64
+        && needs.steps as u64 + lines == n as u64
+        && lines + 1 == line_number(log, log.len()) as u64
+        && log.len() as u64 <= needs.bytes as u64
 }
 
 // Prints what a history needs, and compares it with a file of so many bytes and its log.
-fn show_needs(rt: HostRuntime, h: &[u8], bytes: usize, log: &[u8]) {
+fn show_needs(rt: &impl Print, h: &[u8], bytes: usize, log: &[u8]) {
     let needs = room::needs_of(h);
-    show_number(rt, needs.blocks as u64);
-    show_number(rt, needs.steps as u64);
-    show_number(rt, needs.lines as u64);
-    show_number(rt, needs.bytes as u64);
-    if (needs.result == 0) & meets(needs, h.len() / RECORD, bytes, log) {
-        let _ = rt.write_all(b" ok\n");
-        return;
-    }
-    let _ = rt.write_all(b" differs\n");
+    let met = needs.result == 0 && meets(needs, h.len() / RECORD, bytes, log);
+    let verdict = if met { "ok" } else { "differs" };
+    let _ = println!(rt;
+        " {} {} {} {} {verdict}",
+        needs.blocks, needs.steps, needs.lines, needs.bytes
+    );
 }
 
 // `needs NAME`.
-fn test_needs(rt: HostRuntime, name: &[u8], file: &mut [u8], log: &mut [u8], out: &mut [u8])
-    requires file_len { length file.old ≡ 65536 }
-    requires log_len { length log.old ≡ 65536 }
-    requires out_len { length out.old ≡ 65536 }
-{
-    let n = load(rt, name, b".hist", file);
-    let m = load(rt, name, b".log", log);
-    let t = history::read(&file[..n], out);
-    let w = t.written;
-    if t.result == 0 {
-        if w <= SIZE {
-            show_needs(rt, &out[..w], n, &log[..m]);
-            return;
-        }
+fn test_needs(rt: HostRuntime, name: &[u8], s: &mut Space) {
+    let n = load(rt, name, b".hist", &mut s.file);
+    let m = load(rt, name, b".log", &mut s.back);
+    if let Some(h) = history_of(&rt, &s.file[..n], &mut s.out) {
+        show_needs(&rt, h, n, &s.back[..m]);
     }
-    let _ = rt.write_all(b" is not read\n");
-}
-
-// `write LENGTH ROOM RESULT BYTES`.
-fn test_write(rt: HostRuntime, n: usize, row: Row, file: &mut [u8], out: &mut [u8], back: &mut [u8])
-    requires file_len { length file.old ≡ 65536 }
-    requires out_len { length out.old ≡ 65536 }
-    requires back_len { length back.old ≡ 65536 }
-    requires room_bound { row.room ≤ 65536 }
-    requires n_bound { n ≤ 65536 }
-{
-    let room = row.room;
-    buffers::clear(file, 0, n);
-    mark(out);
-    let t = history::write(&file[..n], &mut out[..room]);
-    let w = t.written;
-    if w > room {
-        verdict(rt, row, t.result, w, false);
-        return;
-    }
-    let kept = all_from(out, w, MARK);
-    if t.result != 0 {
-        verdict(rt, row, t.result, w, kept);
-        return;
-    }
-    verdict(rt, row, 0, w, kept & reads_as(&out[..w], &file[..n], back));
 }
 
 // `long BLOCKS TAIL RESULT PLACE`.
-fn test_long(rt: HostRuntime, n: usize, row: Row, file: &mut [u8], out: &mut [u8])
-    requires file_len { length file.old ≡ 65536 }
-    requires out_len { length out.old ≡ 65536 }
-    requires room_bound { row.room ≤ 65536 }
-    requires n_bound { n ≤ 65536 }
+fn test_long(rt: HostRuntime, n: usize, row: Row, s: &mut Space)
+    requires { n ≤ 65536 }
 {
-    let tail = row.room;
-    buffers::clear(file, 0, tail);
-    let s = log_long(n as u32, &file[..tail], out);
-    let w = s.at;
-    let sound = is_place_line(s.place, s.result, &out[..w]);
-    verdict(rt, row, s.result, s.place as usize, sound);
+    s.file[..row.room].fill(0);
+    let log = log_long(n as u32, &s.file[..row.room], &mut s.out);
+    let sound = is_place_line(log.place, log.result, &s.out[..log.at]);
+    verdict(&rt, row, log.result, log.place as usize, sound);
 }
 
-// The number behind the separator at `at`, 0 where there is none, and the place behind it.
-fn number_at(line: &[u8], at: usize) -> Number
-    requires { at ≤ length line.now }
-    ensures { result.next ≤ length line.now }
-{
-    if at == line.len() {
-        return Number { value: 0, next: at };
-    }
-    let from = at + 1;
-    let to = scan::part_end(line, from, true);
-    let n = scan::number(&line[from..to]);
-    Number {
-        value: n.value,
-        next: to,
-    }
+// The number that a word is, 0 where there is none.
+fn number(word: Option<&[u8]>) -> u64 {
+    word.and_then(|w| scan::number(w)).unwrap_or(0)
 }
 
-// Room, result and bytes of the row, from place `at` on.
-fn row_at(text: &[u8], at: usize) -> Row
-    requires { at ≤ length text.now }
-    ensures { result.room ≤ 65536 }
-{
-    let room = number_at(text, at);
-    let result = number_at(text, room.next);
-    let bytes = number_at(text, result.next);
-    Row {
-        room: size(room.value),
-        result: result.value,
-        bytes: bytes.value,
+impl<'a> Test<'a> {
+    // The test in a line of the table, none where nothing stands behind its first word.
+    fn of(line: &'a [u8]) -> Option<Test<'a>> {
+        let mut words = line.split(|b| Between::Words.splits(*b));
+        let kind = words.next()?;
+        let name = words.next()?;
+        let row = Row {
+            room: size(number(words.next())),
+            result: number(words.next()),
+            bytes: number(words.next()),
+        };
+        Some(match kind {
+            [b'l', _, _] => Test::Log(name),
+            [b'l', ..] => Test::Long(number(Some(name)), row),
+            [b't', ..] => Test::Turn(name),
+            [b'a', ..] => Test::Audit(name),
+            [b'n', ..] => Test::Needs(name),
+            [b'r', ..] => Test::Read(name, row),
+            _ => Test::Write(number(Some(name)), row),
+        })
     }
 }
 
-// The test of a row with nothing behind the name of its file, by the first letter: `turn`, `audit` or
-// `needs`.
-fn test_name(rt: HostRuntime, b: u8, name: &[u8], file: &mut [u8], out: &mut [u8], back: &mut [u8])
-    requires file_len { length file.old ≡ 65536 }
-    requires out_len { length out.old ≡ 65536 }
-    requires back_len { length back.old ≡ 65536 }
-{
-    if b == b't' {
-        test_turn(rt, name, file, back, out);
-        return;
-    }
-    if b == b'a' {
-        test_audit(rt, name, file, out);
-        return;
-    }
-    test_needs(rt, name, file, back, out);
-}
-
-// The test in a line of the table.
-fn test(rt: HostRuntime, line: &[u8], file: &mut [u8], out: &mut [u8], back: &mut [u8])
-    requires file_len { length file.old ≡ 65536 }
-    requires out_len { length out.old ≡ 65536 }
-    requires back_len { length back.old ≡ 65536 }
-{
+// Runs the test in a line of the table.
+fn run(rt: HostRuntime, line: &[u8], s: &mut Space) {
     let _ = rt.write_all(line);
-    let w = scan::part_end(line, 0, true);
-    if w >= line.len() {
-        let _ = rt.write_all(b" no test\n");
-        return;
-    }
-    let from = w + 1;
-    let to = scan::part_end(line, from, true);
-    let b = line[0];
-    if (b == b'l') & (w == 3) {
-        test_log(rt, &line[from..to], file, back, out);
-        return;
-    }
-    if (b == b't') | (b == b'a') | (b == b'n') {
-        test_name(rt, b, &line[from..to], file, out, back);
-        return;
-    }
-    let row = row_at(line, to);
-    if b == b'r' {
-        test_read(rt, &line[from..to], row, file, out, back);
-        return;
-    }
-    let n = number_at(line, w);
-    if b == b'l' {
-        test_long(rt, size(n.value), row, file, out);
-        return;
-    }
-    test_write(rt, size(n.value), row, file, out, back);
-}
-
-// Every line of the table.
-fn run(rt: HostRuntime, table: &[u8], file: &mut [u8], out: &mut [u8], back: &mut [u8])
-    requires file_len { length file.old ≡ 65536 }
-    requires out_len { length out.old ≡ 65536 }
-    requires back_len { length back.old ≡ 65536 }
-{
-    let mut at: usize = 0;
-    while at < table.len() {
-        let to = scan::part_end(table, at, false);
-        test(rt, &table[at..to], file, out, back);
-        at = to + 1;
+    match Test::of(line) {
+        Some(Test::Log(name)) => test_log(rt, name, s),
+        Some(Test::Read(name, row)) => test_read(rt, name, row, s),
+        Some(Test::Write(n, row)) => test_write(rt, size(n), row, s),
+        Some(Test::Audit(name)) => test_audit(rt, name, s),
+        Some(Test::Needs(name)) => test_needs(rt, name, s),
+        Some(Test::Turn(name)) => test_turn(rt, name, s),
+        Some(Test::Long(n, row)) => test_long(rt, size(n), row, s),
+        None => {
+            let _ = println!(rt; " no test");
+        }
     }
 }
 
 fn main(rt: HostRuntime) {
-    let mut table = [0u8; 65536];
-    let mut file = [0u8; 65536];
-    let mut out = [0u8; 65536];
-    let mut back = [0u8; 65536];
-    let got = streams::read_all(rt, b"vectors", &mut table);
-    if got.error != 0 {
+    let mut table = [0u8; SIZE];
+    let mut s = Space {
+        file: [0; SIZE],
+        out: [0; SIZE],
+        back: [0; SIZE],
+    };
+    let Ok(n) = streams::read_all(rt, "vectors", &mut table) else {
         return;
+    };
+    for line in table[..n].split_inclusive(|b| *b == b'\n') {
+        run(rt, line.strip_suffix(b"\n").unwrap_or(line), &mut s);
     }
-    let n = got.count;
-    run(rt, &table[..n], &mut file, &mut out, &mut back);
 }

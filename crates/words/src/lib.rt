@@ -3,9 +3,11 @@
 // 2^48, so it takes every u64.
 #![tactic(auto)]
 
-ghost use Rattle.std.specs.Prelude.{◌≡◌, ◌-◌, ◌<◌, not, cond, ◌||◌, ◌&&◌, eqb, ltb};
+ghost use Rattle.std.specs.Prelude.{◌≡◌, ◌<◌, not, cond, ◌||◌, ◌&&◌, eqb};
 ghost use Rattle.std.specs.Bool.{beq};
-ghost use Rattle.words.specs.Bits.{bit, flag, flags, word, put_bit};
+ghost use Rattle.std.specs.List.{list_all};
+ghost use Rattle.std.specs.Ordering.{partial_lt};
+ghost use Rattle.words.specs.Bits.{bit_at, bit, flags, word, put_bit};
 ghost use Rattle.words.specs.Range.{or_reset};
 
 // Words are below this, 48 bits.
@@ -14,41 +16,27 @@ pub const WORDS: u64 = 1 << 48;
 // Every bit of a word.
 const ALL: u64 = WORDS - 1;
 
-// 1 for true, 0 for false.
-pub fn flag(b: bool) -> u32
-    ensures is { result ≡ flag b }
-    ensures small { result < 2 }
-{
-    if b { 1 } else { 0 }
-}
-
 // Four flags as the bits 0 to 3 of a number.
 pub fn flags(a: bool, b: bool, c: bool, d: bool) -> u32
     ensures is { result ≡ flags a b c d }
     ensures small { result < 16 }
 {
-    flag(a) + 2 * flag(b) + 4 * flag(c) + 8 * flag(d)
-}
-
-// One less, and 0 of 0.
-pub fn less_one(n: u32) -> u32
-    ensures { result ≡ n - 1 }
-{
-    if n == 0 { 0 } else { n - 1 }
+    u32::from(a) + 2 * u32::from(b) + 4 * u32::from(c) + 8 * u32::from(d)
 }
 
 // `n` where it is below the limit, else the value at reset.
-pub fn below(limit: u32, reset: u32, n: u32) -> u32
-    ensures { result ≡ or_reset (λ m. ltb m limit) reset n }
+pub fn below<T: PartialOrd + Copy>(limit: T, reset: T, n: T) -> T
+    ensures { result ≡ or_reset (λ m. partial_lt T.partial_cmp m limit) reset n }
 {
     if n < limit { n } else { reset }
 }
 
-// The same of a word.
-pub fn word_below(limit: u64, reset: u64, w: u64) -> u64
-    ensures { result ≡ or_reset (λ m. ltb m limit) reset w }
+// Each of the values is below the limit. All are looked at: to end at the first that is not takes
+// more (docs/SPEED.md).
+pub fn are_below<T: PartialOrd + Copy>(limit: T, values: &[T]) -> bool
+    ensures { result ≡ list_all (λ m. partial_lt T.partial_cmp m limit) values.now }
 {
-    if w < limit { w } else { reset }
+    values.iter().fold(true, |sound, &n| sound & (n < limit))
 }
 
 // Bit `i` of `w`.
@@ -57,6 +45,14 @@ pub fn bit(w: u64, i: u64) -> bool
     ensures { result ≡ bit w i }
 {
     (w >> i) % 2 == 1
+}
+
+// The same of a number of 32 bits, as the formula that computes.
+pub fn bit_at(v: u32, i: u32) -> bool
+    requires { i < 32 }
+    ensures { result ≡ bit_at v i }
+{
+    bit(u64::from(v), u64::from(i))
 }
 
 // The bits that `a` or `b` has.
@@ -108,7 +104,8 @@ pub fn all(v: bool) -> u64
     if v { ALL } else { 0 }
 }
 
-// Bit `p` alone.
+// Bit `p` alone. That there is a pin p stands as a bound here and above, in filters and ports: a type
+// for it would be made and taken apart at each loop over pins and at each call.
 pub fn only(p: u64) -> u64
     requires { p < 48 }
     ensures { result ≡ word 48 (λ i. eqb i p) }

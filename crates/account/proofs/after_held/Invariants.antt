@@ -3,7 +3,7 @@
 use mathlib.Core.Path.{◌≡◌}
 use mathlib.Core.Bool.{not}
 use mathlib.Core.List.{List, ◌++◌}
-use Prim.Native.Nat.{ℕ, ◌-◌, ◌≤◌}
+use Prim.Native.Nat.{ℕ}
 use lib.Dec.{eqb}
 use lib.ListN.{drop}
 use Rattle.words.specs.Bits.{flag}
@@ -18,7 +18,4 @@ abbrev pub own : List Channel → List Account → ℕ → Account
 own cs xs c = more (account_in xs c) (flag (not (eqb (channel_in cs c).held 0))) 0 0
 
 abbrev pub invariant-loop-i : goal.invariant-loop-i
-invariant-loop-i l = (l.i ≤ 6) × (l.r ≡ tab l.i (own l.cs l.accounts) ++ drop l.i l.accounts)
-
-abbrev pub decreases-loop-i : goal.decreases-loop-i
-decreases-loop-i l = 6 - l.i
+invariant-loop-i l = l.accounts ≡ tab l.i (own l.cs l.fn.accounts) ++ drop l.i l.fn.accounts

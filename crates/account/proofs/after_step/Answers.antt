@@ -6,4 +6,4 @@ use Rattle.account.proofs.after_step.Goals as goal
 pub returns : goal.returns
 returns c =
     let a = c.args in
-    rw (c.after_held.ensures, c.step-next.ensures, c.emptied-free.ensures) (step-held a.board a.v a.w a.accounts)
+    rw (c.after_held.ensures, c.step.ensures, c.emptied.ensures) (step-held a.board a.v a.w a.accounts)

@@ -2,7 +2,6 @@
 -- Assumes nothing.
 use mathlib.Core.Path.{◌≡◌}
 use mathlib.Core.List.{◌++◌}
-use Prim.Native.Nat.{◌-◌, ◌≤◌}
 use lib.ListN.{drop}
 use Rattle.words.specs.Table.{tab}
 use Rattle.board.specs.Inputs.{channel_in}
@@ -10,7 +9,4 @@ use Rattle.account.specs.Code.{emptied}
 use Rattle.account.proofs.emptied.Given as goal
 
 abbrev pub invariant-loop-i : goal.invariant-loop-i
-invariant-loop-i l = (l.i ≤ 6) × (l.r ≡ tab l.i (λ c. emptied (channel_in l.cs c)) ++ drop l.i l.cs)
-
-abbrev pub decreases-loop-i : goal.decreases-loop-i
-decreases-loop-i l = 6 - l.i
+invariant-loop-i l = l.cs ≡ tab l.i (λ c. emptied (channel_in l.fn.cs c)) ++ drop l.i l.fn.cs

@@ -13,13 +13,13 @@ returns-then-is_step c =
     rw (c.after_step.ensures, c.repair.ensures)
     (step-adds (repaired_board a.board) a.event (sym c.is_step.ensures ∙ c.if-is_step.true) a.accounts)
 
-pub returns-then-m-ge-CHANNELS : goal.returns-then-m-ge-CHANNELS
-returns-then-m-ge-CHANNELS c =
+pub returns-else-m-lt-CHANNELS : goal.returns-else-m-lt-CHANNELS
+returns-else-m-lt-CHANNELS c =
     let a = c.args in
-    nothing-adds (repaired_board a.board) a.event (sym c.is_step.ensures ∙ c.if-is_step.false) c.if-m-ge-CHANNELS.true a.accounts (omega (arith, c.well_formed.0.1))
+    nothing-adds (repaired_board a.board) a.event (sym c.is_step.ensures ∙ c.if-is_step.false) c.if-m-lt-CHANNELS.false a.accounts (omega (arith, c.well_formed.0.1))
 
-pub returns : goal.returns
-returns c =
+pub returns-then-m-lt-CHANNELS : goal.returns-then-m-lt-CHANNELS
+returns-then-m-lt-CHANNELS c =
     let a = c.args in
-    rw (c.after_call.ensures, c.apply-outcome.ensures, answered a.board a.event)
-    (call-adds (repaired_board a.board) a.event (sym c.is_step.ensures ∙ c.if-is_step.false) c.if-m-ge-CHANNELS.false a.accounts (omega (arith, c.well_formed.0.1)))
+    rw (c.after_call.ensures, c.apply.ensures, answered a.board a.event)
+    (call-adds (repaired_board a.board) a.event (sym c.is_step.ensures ∙ c.if-is_step.false) c.if-m-lt-CHANNELS.true a.accounts (omega (arith, c.well_formed.0.1)))

@@ -1,10 +1,13 @@
 -- `buffers::long_at` meets its contract.
 -- Assumes nothing.
-use mathlib.Core.Path.{sym}
-use native.Mathlib.Omega.{arith}
-use Rattle.buffers.proofs.Little.{field-split}
+use mathlib.Core.Path.{◌∙◌}
+use native.Mathlib.Nat.{add-sub_cancel_left}
+use Rattle.buffers.specs.Little.{field}
+use Rattle.buffers.proofs.Bytes.{eight-value}
 use Rattle.buffers.proofs.long_at.Goals as goal
 
 pub returns : goal.returns
+unfolding field
 returns c =
-    rw (c.word_at-high.ensures, c.word_at-low.ensures) (sym (field-split 4 4 _ _ (omega (arith, c.requires))))
+    let read = c.copy_from_slice.ensures in
+    c.from_le_bytes.ensures ∙ eight-value c.copy_from_slice.new.self read.len ∙ rw (read.after, add-sub_cancel_left)

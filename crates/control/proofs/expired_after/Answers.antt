@@ -1,32 +1,30 @@
 -- `control::expired_after` meets its contract.
 -- Assumes nothing.
-use Rattle.std.proofs.Common.{arith, le-ltb, ne_eqb}
+use Rattle.std.proofs.Common.{◌≡◌, ℕ, ◌+◌, Bool, true, false, cond, refl, arith, le-ltb}
+use Rattle.std.specs.Int.{from_bool}
 use Rattle.control.specs.Watchdog.{expired_after}
 use Rattle.control.proofs.expired_after.Goals as goal
 
-pub returns-then-rests-eq1 : goal.returns-then-rests-eq1
-unfolding expired_after
-returns-then-rests-eq1 c = rw (c.in-0.is, c.if-rests-eq1.true)
+-- one more where a test holds
+one_more : (n : ℕ) (t : Bool) → n + from_bool t ≡ cond t (n + 1) n
+one_more n true = refl
+one_more n false = omega arith
 
-pub returns-else-rests-eq1 : goal.returns-else-rests-eq1
-unfolding expired_after
-returns-else-rests-eq1 c = rw (c.in-0.is, ne_eqb _ _ c.if-rests-eq1.false)
+one : (t : Bool) → from_bool t ≡ cond t 1 0
+one true = refl
+one false = refl
 
-pub returns-then-rests-eq1-2 : goal.returns-then-rests-eq1-2
+pub returns-in-0 : goal.returns-in-0
 unfolding expired_after
-returns-then-rests-eq1-2 c = rw (c.in-1.is, c.if-rests-eq1-2.true)
+returns-in-0 c = rw (c.from.ensures, c.in-0.is) (one _)
 
-pub returns-else-rests-eq1-2 : goal.returns-else-rests-eq1-2
+pub returns-in-1 : goal.returns-in-1
 unfolding expired_after
-returns-else-rests-eq1-2 c = rw (c.in-1.is, ne_eqb _ _ c.if-rests-eq1-2.false)
+returns-in-1 c = rw (c.from-in-1.ensures, c.in-1.is) (one_more 1 _)
 
-pub returns-then-rests-eq1-3 : goal.returns-then-rests-eq1-3
+pub returns-in-2 : goal.returns-in-2
 unfolding expired_after
-returns-then-rests-eq1-3 c = rw (c.in-2.is, c.if-rests-eq1-3.true)
-
-pub returns-else-rests-eq1-3 : goal.returns-else-rests-eq1-3
-unfolding expired_after
-returns-else-rests-eq1-3 c = rw (c.in-2.is, ne_eqb _ _ c.if-rests-eq1-3.false)
+returns-in-2 c = rw (c.from-in-2.ensures, c.in-2.is) (one_more 2 _)
 
 pub returns-in_default : goal.returns-in_default
 unfolding expired_after

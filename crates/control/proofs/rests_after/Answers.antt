@@ -7,15 +7,15 @@ use Rattle.control.proofs.rests_after.Goals as goal
 
 pub returns-in-0 : goal.returns-in-0
 unfolding rests_after tab
-returns-in-0 c = rw (c.less_one-first.ensures, c.in-0.is)
+returns-in-0 c = rw (c.saturating_sub-first.ensures, c.in-0.is)
 
 pub returns-in-1 : goal.returns-in-1
 unfolding rests_after tab
-returns-in-1 c = rw (c.less_one.ensures, c.less_one-first.ensures, c.in-1.is)
+returns-in-1 c = rw (c.saturating_sub.ensures, c.saturating_sub-first.ensures, c.in-1.is)
 
 pub returns-in_default : goal.returns-in_default
 unfolding rests_after tab
 returns-in_default c =
     let expired = c.args.expired in
     let begun : 1 < expired = omega arith in
-    rw (c.less_one-in_default-2.ensures, c.less_one-in_default.ensures, c.less_one-first.ensures, lt-ltb 0 expired (omega arith), lt-ltb 1 expired begun)
+    rw (c.saturating_sub-in_default-2.ensures, c.saturating_sub-in_default.ensures, c.saturating_sub-first.ensures, lt-ltb 0 expired (omega arith), lt-ltb 1 expired begun)

@@ -1,24 +1,14 @@
--- `filters::above_zero` meets its contract. The invariant: the word tells of the number in the first j planes.
+-- `filters::above_zero` meets its contract.
 -- Assumes nothing.
-use mathlib.Core.Path.{◌≡◌, refl}
-use native.Mathlib.Omega.{arith}
-use lib.ListN.{get_or}
-use Rattle.words.specs.Bits.{bit, word}
-use Rattle.words.proofs.BitLaws.{word-ext, bit_word}
-use Rattle.filters.specs.Planes.{number_at}
-use Rattle.filters.proofs.Numbers.{above_more}
+use mathlib.Core.Path.{◌∙◌}
+use borrow.Author.Rules.{rules}
+use borrow.Author.Tests.{tests}
+use Rattle.std.proofs.lemmas.Iterator.{YieldsList-from_slice}
+use Rattle.std.proofs.lemmas.Iterator.Consumers.{fold_from_yields_List}
+use Rattle.filters.proofs.Folds.{above, above-all}
 use Rattle.filters.proofs.above_zero.Goals as goal
 
-pub loop-j-init : goal.loop-j-init
-unfolding word
-loop-j-init c = (omega arith, refl)
-
-pub loop-j-preserved : goal.loop-j-preserved
-loop-j-preserved c =
-    let x = c.args.x in
-    let l = c.loop-j in
-    (omega arith, rw (c.either-r.ensures, l.invariant.1) (word-ext 48 _ _ (λ p h. simp bit_word (above_more l.j (λ k. bit (get_or x k 0) p)))))
-
 pub returns : goal.returns
-unfolding number_at
-returns c = let e : c.loop-j.j ≡ 16 = omega arith in rw e at c.loop-j.invariant.1
+returns c =
+    let x = c.args.x in
+    fold_from_yields_List _ above 0 _ c.fold.ensures.ran (YieldsList-from_slice x cc) (λ a y b q k. search (rules, tests)) ∙ above-all x (search rules)

@@ -1,21 +1,22 @@
 -- `kinds::letter` meets its contract.
 -- Assumes nothing.
-use borrow.Author.Tests.{eq-eqb, ne_eqb}
+use Rattle.std.proofs.Common.{arith}
+use Rattle.std.proofs.lemmas.Grind.{common_steps}
 use Rattle.kinds.specs.Names.{letter}
 use Rattle.kinds.proofs.letter.Goals as goal
 
-pub returns-then-b-eq97 : goal.returns-then-b-eq97
+pub returns-in-97 : goal.returns-in-97
 unfolding letter
-returns-then-b-eq97 c = rw (eq-eqb _ 97 c.if-b-eq97.true)
+returns-in-97 c = rw c.in-97.is
 
-pub returns-then-b-eq98 : goal.returns-then-b-eq98
+pub returns-in-98 : goal.returns-in-98
 unfolding letter
-returns-then-b-eq98 c = rw (ne_eqb _ 97 c.if-b-eq97.false, eq-eqb _ 98 c.if-b-eq98.true)
+returns-in-98 c = rw c.in-98.is
 
-pub returns-then-b-eq120 : goal.returns-then-b-eq120
+pub returns-in-120 : goal.returns-in-120
 unfolding letter
-returns-then-b-eq120 c = rw (ne_eqb _ 97 c.if-b-eq97.false, ne_eqb _ 98 c.if-b-eq98.false, eq-eqb _ 120 c.if-b-eq120.true)
+returns-in-120 c = rw c.in-120.is
 
-pub returns : goal.returns
+pub returns-in_default : goal.returns-in_default
 unfolding letter
-returns c = rw (ne_eqb _ 97 c.if-b-eq97.false, ne_eqb _ 98 c.if-b-eq98.false, ne_eqb _ 120 c.if-b-eq120.false)
+returns-in_default c = grind (arith, common_steps)

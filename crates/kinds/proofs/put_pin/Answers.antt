@@ -1,17 +1,16 @@
 -- `kinds::put_pin` meets its contract.
 -- Assumes nothing.
-use mathlib.Core.Path.{refl}
+use mathlib.Core.List.{append_assoc}
 use native.Mathlib.Omega.{arith}
-use borrow.Author.Tests.{lt-ltb, le-ltb}
-use Rattle.buffers.proofs.Put.{put_four}
-use Rattle.kinds.specs.Names.{pin_name}
-use Rattle.buffers.proofs.Put.{put_three}
+use lib.ListN.{length-append}
+use Rattle.std.proofs.Common.{rules}
+use Rattle.kinds.proofs.Names.{pin_named, length_pin, pin-length}
 use Rattle.kinds.proofs.put_pin.Goals as goal
 
-pub returns-then-i-lt10 : goal.returns-then-i-lt10
-unfolding pin_name
-returns-then-i-lt10 c = rw (lt-ltb _ 10 c.if-i-lt10.true) (record { within = omega arith; wrote = (refl, put_three _ _ _ _ _ (omega arith)) })
+pub put_decimal-requires : goal.put_decimal-requires
+put_decimal-requires g c = (search rules, rw c.put_bytes.ensures.wrote (simp length-append (omega (arith, length_pin c.args.i c.requires.pin, c.requires.room))))
 
 pub returns : goal.returns
-unfolding pin_name
-returns c = rw (le-ltb _ 10 c.if-i-lt10.false) (record { within = omega arith; wrote = (refl, put_four _ _ _ _ _ _ c.requires.at_in_bounds) })
+returns g c =
+    let e = simp (append_assoc, c.put_bytes.ensures.wrote, ← pin_named c.args.i c.requires.pin) at c.put_decimal.ensures.wrote in
+    record { within = rw e (simp length-append (omega (arith, pin-length c.args.i))); wrote = e }

@@ -1,12 +1,10 @@
 -- `kinds::put_raw_name` meets its contract.
 -- Assumes nothing.
-use mathlib.Core.Path.{refl}
-use native.Mathlib.Omega.{arith}
 use Rattle.words.specs.Table.{tab}
 use Rattle.scan.specs.Bytes.{ascii}
 use Rattle.kinds.specs.Names.{raw_name}
 use Rattle.kinds.proofs.put_raw_name.Goals as goal
 
-pub returns : goal.returns
+pub returns-clause-wrote : goal.returns-clause-wrote
 unfolding raw_name ascii tab
-returns c = record { within = omega arith; wrote = (refl, c.copy_to.ensures) }
+returns-clause-wrote g c = rw (← c.as_bytes.ensures.value) c.put_bytes.ensures.wrote

@@ -1,15 +1,19 @@
 -- `scan::before` meets its contract.
 -- Assumes nothing.
-use native.Mathlib.Omega.{arith}
-use borrow.Author.Tests.{eq-eqb, ne_eqb}
-use Rattle.scan.proofs.Parts.{before_more, before-found, before-all}
+use mathlib.Core.Path.{◌≡◌, ◌∙◌}
+use lib.Dec.{eqb}
+use lib.ListN.{length, take}
+use Rattle.std.proofs.Common.{rules}
+use Rattle.std.proofs.lemmas.Iterator.{YieldsList-from_slice}
+use Rattle.std.proofs.lemmas.Iterator.Search.{position_from_yields_List}
+use borrow.Author.Tests.{tests}
+use Rattle.std.specs.Prelude.{position}
+use Rattle.scan.proofs.Parts.{place-found, before-found}
 use Rattle.scan.proofs.before.Goals as goal
 
-pub returns-then-text-i-clause-front : goal.returns-then-text-i-clause-front
-returns-then-text-i-clause-front c = before-found _ _ _ c.loop-i.invariant.1 (omega arith) (eq-eqb _ _ c.if-text-i.true)
-
-pub loop-i-preserved : goal.loop-i-preserved
-loop-i-preserved c = (omega arith, before_more _ _ _ c.loop-i.invariant.1 (omega arith) (ne_eqb _ _ c.if-text-i.false))
-
 pub returns-clause-front : goal.returns-clause-front
-returns-clause-front c = before-all c.args.m c.args.text.now c.loop-i.i c.loop-i.invariant.1 (omega arith)
+returns-clause-front c =
+    let text = c.args.text.now in
+    let found : c.position.result ≡ position (λ b. eqb b c.args.m) text =
+    position_from_yields_List (λ b. eqb b c.args.m) _ _ _ c.position.ensures.ran (YieldsList-from_slice text cc) (λ x b q k. search (rules, tests)) in
+    rw (c.unwrap_or.ensures, found, place-found (λ b. eqb b c.args.m) text) (before-found c.args.m text)

@@ -1,30 +1,23 @@
 -- `scan::extended` meets its contract.
 -- Assumes nothing.
-use mathlib.Core.Path.{sym}
-use native.Mathlib.Nat.{le-div_iff_mul-le, div-lt_iff_lt-mul}
+use mathlib.Core.Path.{refl, sym, ◌∙◌}
 use native.Mathlib.Omega.{arith}
-use borrow.Author.Tests.{not-true, not-false}
-use Rattle.scan.proofs.Numbers.{extended_none, extended-other, extended-over, extended-more}
+use Rattle.scan.proofs.Numbers.{extended_none, extended-other, extended-over, extended-sum}
 use Rattle.scan.proofs.extended.Goals as goal
 
-pub returns-then-not-n : goal.returns-then-not-n
-returns-then-not-n c = sym (extended_none _ _ _ (not-true _ c.if-not-n.true))
+pub returns-then-digit-base : goal.returns-then-digit-base
+returns-then-digit-base c = sym (extended-other _ c.args.n _ (rw (← c.worth-digit.ensures) c.if-digit-base.true))
 
-pub returns-then-d-base : goal.returns-then-d-base
-returns-then-d-base c =
-    let w = c.worth-d.ensures in
-    sym (extended-other _ _ _ (not-false _ c.if-not-n.false) (rw (← w) c.if-d-base.true))
+pub returns-in_err-n : goal.returns-in_err-n
+returns-in_err-n c = rw (c.in_err-n.was, c.from_residual.ensures) (sym (extended_none _ _))
 
-pub returns-then-n-d : goal.returns-then-n-d
-returns-then-n-d c =
-    let a = c.args in
-    let w = c.worth-d.ensures in
-    let over = (div-lt_iff_lt-mul {k = a.base} c.requires).0 c.if-n-d.true in
-    sym (extended-over _ _ a.b (not-false _ c.if-not-n.false) (rw (← w) c.if-d-base.false) (rw (← w) (omega arith)))
+pub returns-in_err-checked_mul : goal.returns-in_err-checked_mul
+returns-in_err-checked_mul c =
+    let w = c.worth-digit.ensures in
+    rw (c.in_ok-n.was, c.from_residual-in_err-checked_mul.ensures)
+    (sym (extended-over c.args.base c.in_ok-n.field-0 c.args.b (rw (← w) c.if-digit-base.false) (omega (arith, c.in_err-checked_mul.ensures))))
 
 pub returns : goal.returns
 returns c =
-    let a = c.args in
-    let w = c.worth-d.ensures in
-    let room = (le-div_iff_mul-le {k = a.base} c.requires).0 c.if-n-d.false in
-    rw w (sym (extended-more _ _ a.b (not-false _ c.if-not-n.false) (rw (← w) c.if-d-base.false) (rw (← w) (omega arith))))
+    let w = c.worth-digit.ensures in
+    rw c.in_ok-n.was (extended-sum c.args.base c.in_ok-n.field-0 c.args.b c.checked_add.result (rw (← w) c.if-digit-base.false) (rw (← w, ← c.in_ok-checked_mul.ensures.1) c.checked_add.ensures))

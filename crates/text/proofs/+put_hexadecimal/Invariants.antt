@@ -1,6 +1,6 @@
--- `text::put_hexadecimal` meets its contract.
+-- `text::put_hexadecimal` ends.
 -- Assumes nothing.
 use Rattle.text.proofs.+put_hexadecimal.Given as goal
 
 abbrev pub decreases-put_hexadecimal : goal.decreases-put_hexadecimal
-decreases-put_hexadecimal l = l.k
+decreases-put_hexadecimal g l = l.k

@@ -1,56 +1,82 @@
 -- `board::Board::call` meets its contract.
 -- Assumes nothing.
-use mathlib.Core.Path.{ap, sym, ◌∙◌}
+use Rattle.std.proofs.Common.{◌≡◌, refl, sym, arith}
+use Rattle.calls.specs.Refused.{code_of}
+use Rattle.calls.specs.declared.refusal.Refusal.{Refusal}
+use Rattle.calls.specs.declared.refusal.Refusal.TheVariants.{Member, Kind, Field, Running, Empty, Lost, Enabled, Barred}
 use Rattle.board.proofs.Checks.{named, on-board, refused-call, passes, passed-call}
 use Rattle.board.proofs.Same.{board-pins}
-use Rattle.board.specs.Respond.{refusal_by, outcome}
+use Rattle.board.specs.Respond.{refusal_by, passed_by}
 use Rattle.board.specs.declared.Class.TheVariants.{OnChannel, OnPin, OnVirtual, OnBoard}
 use Rattle.board.proofs.Board.call.Goals as goal
 
-pub returns-then-result-ne0 : goal.returns-then-result-ne0
-returns-then-result-ne0 c =
-    let a = c.args in
-    rw c.refuse.ensures (ap outcome (sym (refused-call a.self a.e _ _ c.class_of-class.ensures c.refusal-result.ensures c.if-result-ne0.true)))
+-- a refusal is told by a result that is not 0
+told : (r : Refusal) → code_of r ≡ 0 → ⊥
+told Member z = absurd (omega (arith, z))
+told Kind z = absurd (omega (arith, z))
+told Field z = absurd (omega (arith, z))
+told Running z = absurd (omega (arith, z))
+told Empty z = absurd (omega (arith, z))
+told Lost z = absurd (omega (arith, z))
+told Enabled z = absurd (omega (arith, z))
+told Barred z = absurd (omega (arith, z))
 
-pub channel_event-requires : goal.channel_event-requires
-unfolding refusal_by
-channel_event-requires c =
+pub returns-in-Some : goal.returns-in-Some
+returns-in-Some c =
     let a = c.args in
-    named 6 _ a.e (passes a.self a.e _ _ c.class_of-class.ensures c.refusal-result.ensures OnChannel c.in-OnChannel.is c.if-result-ne0.false)
+    rw (c.number.ensures, c.from.ensures) (sym (refused-call a.self.now a.e _ _ c.class_of-class.ensures c.in-Some.ensures (told c.in-Some.refusal)))
 
-pub pin_event-requires : goal.pin_event-requires
+pub bounds-self-m : goal.bounds-self-m
 unfolding refusal_by
-pin_event-requires c =
+bounds-self-m c =
     let a = c.args in
-    let member = named 48 _ a.e (passes a.self a.e _ _ c.class_of-class.ensures c.refusal-result.ensures OnPin c.in-OnPin.is c.if-result-ne0.false) in
-    record { member_bound = member; pins_value = board-pins a.self c.requires }
+    named 6 _ a.e (passes a.self.now a.e _ 0 c.class_of-class.ensures c.in_default.ensures OnChannel c.in-OnChannel.is (refl))
 
-pub virtual_event-requires : goal.virtual_event-requires
+pub bounds-self-m-in-OnChannel : goal.bounds-self-m-in-OnChannel
 unfolding refusal_by
-virtual_event-requires c =
+bounds-self-m-in-OnChannel c =
     let a = c.args in
-    named 6 _ a.e (passes a.self a.e _ _ c.class_of-class.ensures c.refusal-result.ensures OnVirtual c.in-OnVirtual.is c.if-result-ne0.false)
+    named 6 _ a.e (passes a.self.now a.e _ 0 c.class_of-class.ensures c.in_default.ensures OnChannel c.in-OnChannel.is refl)
+
+pub pins_call-requires : goal.pins_call-requires
+unfolding refusal_by
+pins_call-requires c =
+    let a = c.args in
+    record {
+      member = named 48 _ a.e (passes a.self.now a.e _ 0 c.class_of-class.ensures c.in_default.ensures OnPin c.in-OnPin.is refl);
+      sound = board-pins a.self.now c.requires;
+    }
+
+pub virtuals_call-requires : goal.virtuals_call-requires
+unfolding refusal_by
+virtuals_call-requires c =
+    let a = c.args in
+    named 6 _ a.e (passes a.self.now a.e _ 0 c.class_of-class.ensures c.in_default.ensures OnVirtual c.in-OnVirtual.is refl)
 
 pub returns-in-OnChannel : goal.returns-in-OnChannel
+unfolding passed_by
 returns-in-OnChannel c =
     let a = c.args in
-    rw c.channel_event.ensures (ap outcome (sym (passed-call a.self a.e _ _ c.class_of-class.ensures c.refusal-result.ensures OnChannel c.in-OnChannel.is c.if-result-ne0.false)))
+    rw (passed-call a.self.now a.e _ 0 c.class_of-class.ensures c.in_default.ensures OnChannel c.in-OnChannel.is refl, ← c.channel_call-called.ensures)
 
 pub returns-in-OnPin : goal.returns-in-OnPin
+unfolding passed_by
 returns-in-OnPin c =
     let a = c.args in
-    rw c.pin_event.ensures (ap outcome (sym (passed-call a.self a.e _ _ c.class_of-class.ensures c.refusal-result.ensures OnPin c.in-OnPin.is c.if-result-ne0.false)))
+    let s = c.store.ensures in
+    rw (passed-call a.self.now a.e _ 0 c.class_of-class.ensures c.in_default.ensures OnPin c.in-OnPin.is refl, s.state, s.answer, c.pins_call.ensures)
 
 pub returns-in-OnVirtual : goal.returns-in-OnVirtual
+unfolding passed_by
 returns-in-OnVirtual c =
     let a = c.args in
-    rw c.virtual_event.ensures (ap outcome (sym (passed-call a.self a.e _ _ c.class_of-class.ensures c.refusal-result.ensures OnVirtual c.in-OnVirtual.is c.if-result-ne0.false)))
+    let s = c.store-in-OnVirtual.ensures in
+    rw (passed-call a.self.now a.e _ 0 c.class_of-class.ensures c.in_default.ensures OnVirtual c.in-OnVirtual.is refl, s.state, s.answer, c.virtuals_call.ensures)
 
-pub returns-in_default : goal.returns-in_default
-returns-in_default c =
+pub returns-in_default-class : goal.returns-in_default-class
+unfolding passed_by
+returns-in_default-class c =
     let a = c.args in
-    let class = c.class_of-class.ensures in
-    let found = c.refusal-result.ensures in
-    let none = c.if-result-ne0.false in
-    let is = on-board _ _ a.e (sym found ∙ none) c.in_default.in_default-own.keys4 in
-    rw c.board_event.ensures (ap outcome (sym (passed-call a.self a.e _ _ class found OnBoard is none)))
+    let s = c.store-in_default-class.ensures in
+    let is = on-board _ _ a.e (sym c.in_default.ensures) c.in_default-class.not-OnChannel c.in_default-class.not-OnPin c.in_default-class.not-OnVirtual in
+    rw (passed-call a.self.now a.e _ 0 c.class_of-class.ensures c.in_default.ensures OnBoard is refl, s.state, s.answer, c.board_call.ensures)

@@ -3,13 +3,13 @@
 use mathlib.Core.Path.{◌≡◌, ap, sym, ◌∙◌}
 use mathlib.Core.Bool.{true, false}
 use Rattle.calls.specs.Fields.{is_step}
-use Rattle.calls.specs.Reply.{Reply, accept}
+use Rattle.calls.specs.Reply.{accept}
+use Rattle.calls.specs.declared.Reply.{Reply}
 use Rattle.calls.specs.declared.Event.{Event}
 use Rattle.board.specs.Step.{stepped}
 use Rattle.board.specs.Respond.{called, respond, outcome}
 use Rattle.board.specs.Handed.{repaired_board, kept, applied}
 use Rattle.board.specs.declared.Board.{Board}
-use Rattle.board.specs.declared.Outcome.{Outcome}
 use Rattle.board.proofs.Steps.{of-step, of-call}
 use Rattle.board.proofs.Kept.{stored}
 use Rattle.board.proofs.Same.{board-repaired}
@@ -21,13 +21,13 @@ of-stepped b e is =
     let r = of-step (repaired_board b) e is in
     ap outcome (sym (stored b e (ap (λ (x : Reply Board). x.answer.result) r) ∙ r))
 
--- o is what a call on the repaired board s gave
-of-called : (b : Board) (e : Event) (o : Outcome) (s x : Board) → is_step e ≡ false → s ≡ repaired_board b → o ≡ outcome (called s e)
-    → x ≡ kept b e.member o.answer.result o.board → record { board = x; answer = o.answer } ≡ outcome (applied b e)
+-- r is what a call on the repaired board s gave
+of-called : (b : Board) (e : Event) (s x : Board) (r : Reply Board) → is_step e ≡ false → s ≡ repaired_board b → r ≡ called s e
+    → x ≡ kept b e.member r.answer.result r.state → record { board = x; answer = r.answer } ≡ outcome (applied b e)
 unfolding applied
-of-called b e o s x other q p k =
-    let same : o ≡ outcome (respond (repaired_board b) e) = rw (← q) (p ∙ ap outcome (sym (of-call s e other))) in
-    rw (k, same)
+of-called b e s x r other q p k =
+    let same : r ≡ respond (repaired_board b) e = rw (← q) (p ∙ sym (of-call s e other)) in
+    rw (k, ← same)
 
 pub returns-then-is_step : goal.returns-then-is_step
 returns-then-is_step c =
@@ -35,8 +35,8 @@ returns-then-is_step c =
     rw (c.number.ensures, c.step.ensures, c.mended-sound.ensures)
     (of-stepped a.board a.event (sym c.is_step.ensures ∙ c.if-is_step.true))
 
-pub call-r-requires : goal.call-r-requires
-call-r-requires c =
+pub replied-reply-requires : goal.replied-reply-requires
+replied-reply-requires c =
     let mended = c.mended-sound.ensures in
     rw mended (board-repaired c.args.board)
 
@@ -44,4 +44,4 @@ pub returns : goal.returns
 returns c =
     let a = c.args in
     let other = sym c.is_step.ensures ∙ c.if-is_step.false in
-    of-called a.board a.event _ _ _ other c.mended-sound.ensures c.call-r.ensures c.kept.ensures
+    of-called a.board a.event _ _ _ other c.mended-sound.ensures c.replied-reply.ensures c.kept.ensures

@@ -1,13 +1,18 @@
 -- `control::Watchdog::is_sound` meets its contract.
 -- Assumes nothing.
-use Rattle.std.proofs.Common.{◌≡◌, length, rules, eq-eqb}
-use Rattle.words.specs.Bits.{every}
+use Rattle.std.proofs.Common.{◌≡◌, ◌∙◌, rules}
+use borrow.Author.Tests.{tests}
+use Rattle.std.proofs.lemmas.Iterator.{YieldsList-from_slice}
+use Rattle.std.proofs.lemmas.Iterator.Search.{all_from_yields_List}
 use Rattle.words.specs.Range.{all_good}
-use Rattle.control.specs.Watchdog.{watchdog_in_range}
+use Rattle.words.proofs.Arrays.{all_is}
+use Rattle.control.specs.Watchdog.{is_interval, watchdog_in_range}
 use Rattle.control.proofs.Watchdog.is_sound.Goals as goal
 
 pub returns : goal.returns
-unfolding watchdog_in_range all_good every
+unfolding watchdog_in_range
 returns c =
-    let s : length c.args.self.intervals ≡ 3 = search rules in
-    rw (eq-eqb _ 3 s)
+    let intervals = c.args.self.intervals in
+    let all : c.all.result ≡ all_good is_interval 3 intervals =
+    all_from_yields_List is_interval _ _ c.all.result c.all.ensures.ran (YieldsList-from_slice intervals cc) (λ x b q k. search (rules, tests)) ∙ all_is is_interval 3 intervals (search rules) in
+    rw all

@@ -6,8 +6,12 @@ use Rattle.control.proofs.Watchdog.set_interval.Goals as goal
 
 pub returns-then-at-lt-STAGES : goal.returns-then-at-lt-STAGES
 unfolding with_interval
-returns-then-at-lt-STAGES c = rw (lt-ltb _ _ c.if-at-lt-STAGES.true)
+returns-then-at-lt-STAGES c =
+    let h = rw c.from-at.ensures at c.if-at-lt-STAGES.true in
+    rw (c.from-at.ensures, lt-ltb _ _ h)
 
 pub returns-else-at-lt-STAGES : goal.returns-else-at-lt-STAGES
 unfolding with_interval
-returns-else-at-lt-STAGES c = rw (le-ltb _ _ c.if-at-lt-STAGES.false)
+returns-else-at-lt-STAGES c =
+    let h = rw c.from-at.ensures at c.if-at-lt-STAGES.false in
+    rw (le-ltb _ _ h)

@@ -7,8 +7,8 @@ pub returns : goal.returns
 unfolding popped
 returns c =
     simp (
-      c.less_one.ensures,
-      c.shift-r.ensures,
-      c.shift-t.ensures,
-      c.shift-c.ensures,
+      c.saturating_sub.ensures,
+      c.shift-self-3.ensures,
+      c.shift-self-2.ensures,
+      c.shift-self.ensures,
     )

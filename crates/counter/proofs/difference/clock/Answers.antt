@@ -3,6 +3,7 @@
 use Rattle.std.proofs.Common.{◌≡◌, ℕ, zero, suc, ◌<◌, refl, arith, to_z-of_z, lt-ltb, ne_eqb}
 use Rattle.counter.specs.Difference.{clocked, errs}
 use Rattle.counter.proofs.Signed.{back}
+use Rattle.counter.proofs.Turns.{unit_is, sign_is}
 use Rattle.counter.proofs.difference.clock.Goals as goal
 
 -- the last arm: K is none of the numbers before
@@ -16,27 +17,27 @@ last (suc (suc (suc (suc (suc k))))) n₀ n₁ n₂ n₃ n₄ = omega arith
 
 pub returns-in-0 : goal.returns-in-0
 unfolding clocked errs
-returns-in-0 c = let u = c.unit in
-    rw (c.plain.ensures, back u.result u.type_inv, u.ensures, c.line_a-in-0.ensures, c.line_a.ensures, c.in-0.is)
+returns-in-0 c = let u = c.from in
+    rw (back u.result u.type_inv, u.ensures, unit_is, c.line_a-in-0.ensures, c.line_a.ensures, c.in-0.is)
 
 pub returns-in-1 : goal.returns-in-1
 unfolding clocked errs
-returns-in-1 c = let u = c.unit-in-1 in
-    rw (c.plain-in-1.ensures, back u.result u.type_inv, u.ensures, c.line_a-in-1-2.ensures, c.line_a-in-1.ensures, c.in-1.is)
+returns-in-1 c = let u = c.from-in-1 in
+    rw (back u.result u.type_inv, u.ensures, unit_is, c.line_a-in-1-2.ensures, c.line_a-in-1.ensures, c.in-1.is)
 
 pub returns-in-2 : goal.returns-in-2
 unfolding clocked errs
-returns-in-2 c = let u = c.unit-in-2 in
-    rw (c.plain-in-2.ensures, back u.result u.type_inv, u.ensures, c.in-2.is)
+returns-in-2 c = let u = c.from-in-2 in
+    rw (back u.result u.type_inv, u.ensures, unit_is, c.in-2.is)
 
 pub returns-in-3 : goal.returns-in-3
 unfolding clocked errs
-returns-in-3 c = rw (c.plain-in-3.ensures, c.in-3.is)
+returns-in-3 c = rw c.in-3.is
 
 pub returns-in-4 : goal.returns-in-4
 unfolding clocked errs
-returns-in-4 c = let s = c.sign in
-    rw (c.plain-in-4.ensures, back s.result s.type_inv, s.ensures, to_z-of_z c.ranges.carried, c.in-4.is)
+returns-in-4 c = let s = c.signum in
+    rw (back s.result s.type_inv, s.ensures.value, to_z-of_z c.ranges.carried, sign_is, c.in-4.is)
 
 pub returns-in_default : goal.returns-in_default
 unfolding clocked errs

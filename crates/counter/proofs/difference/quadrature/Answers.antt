@@ -1,33 +1,28 @@
 -- `counter::difference::quadrature` meets its contract.
 -- Assumes nothing.
-use Rattle.std.proofs.Common.{◌≡◌, ℕ, true, false, cond, ℤ, pos, sym, refl, ap, ◌∙◌, ap₂, w32, to_z, of_z}
-use Rattle.words.proofs.Cases.{either}
+use Rattle.std.proofs.Common.{◌≡◌, Bool, true, false, cond, Some, None, ℤ, pos, sym, refl, ◌∙◌, rules}
 use Rattle.counter.specs.Quadrature.{quadrature, both_changed, transition, keeps}
-use Rattle.counter.specs.Difference.{turn}
 use Rattle.counter.proofs.Signed.{back}
-use Rattle.counter.proofs.Turns.{told, untold, nothing}
 use Rattle.counter.proofs.difference.quadrature.Goals as goal
 
-module _ (k before now : ℕ) where
-  -- an error counts nothing, whatever K keeps
-  erred : both_changed before now ≡ true → turn (pos 0) true ≡ turn (cond (keeps k before now) (quadrature before now) (pos 0)) (both_changed before now)
-  erred e = ap₂ turn (sym (either (λ z. z ≡ pos 0) (keeps k before now) (nothing before now e) refl)) (sym e)
+none-of : (t : Bool) (q r : ℤ) → cond t None (Some q) ≡ None → None ≡ cond t None (Some r)
+none-of true q r e = refl
+none-of false q r e = cc
 
-  -- without one the table gives the cycle's move
-  cycled : both_changed before now ≡ false → {d : ℤ} → d ≡ cond (keeps k before now) (transition before now) (pos 0)
-      → turn d false ≡ turn (cond (keeps k before now) (quadrature before now) (pos 0)) (both_changed before now)
-  unfolding transition
-  cycled e h = ap₂ turn (h ∙ rw e) (sym e)
+some-of : (t s : Bool) (q d : ℤ) → cond t None (Some q) ≡ Some d → Some (cond s d (pos 0)) ≡ cond t None (Some (cond s q (pos 0)))
+some-of true s q d e = cc
+some-of false s q d e = cc
 
-pub returns-then-d-eq-ERROR : goal.returns-then-d-eq-ERROR
-returns-then-d-eq-ERROR c = let t = c.transition-d in
-    let a = c.args in
-    erred a.k a.before a.now (told a.before a.now (sym t.ensures ∙ sym (back t.result t.type_inv) ∙ ap (to_z w32) c.if-d-eq-ERROR.true))
+pub returns-in_err-d : goal.returns-in_err-d
+unfolding transition
+returns-in_err-d c =
+    let none : c.transition.result ≡ None = search rules in
+    let given : c.from_residual.result ≡ None = search rules in
+    given ∙ none-of (both_changed c.args.before c.args.now) (quadrature c.args.before c.args.now) _ (sym c.transition.ensures ∙ none)
 
 pub returns : goal.returns
-returns c = let g = c.gate in
-    let t = c.transition-d in
-    let a = c.args in
-    let calm = untold a.before a.now (λ h. c.if-d-eq-ERROR.false (ap (of_z w32) (t.ensures ∙ h))) in
-    rw (c.plain.ensures, back g.result g.type_inv)
-    (cycled a.k a.before a.now calm (rw (back t.result t.type_inv, t.ensures, c.keeps.ensures) at g.ensures))
+unfolding transition
+returns c =
+    let some : c.transition.result ≡ Some c.in_ok-d.d = search rules in
+    rw (back c.gate.result c.gate.type_inv, c.gate.ensures, back c.in_ok-d.d (search rules), c.keeps.ensures)
+    (some-of (both_changed c.args.before c.args.now) (keeps c.args.k c.args.before c.args.now) (quadrature c.args.before c.args.now) _ (sym c.transition.ensures ∙ some))

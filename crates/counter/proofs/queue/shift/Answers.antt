@@ -1,15 +1,13 @@
 -- `counter::queue::shift` meets its contract.
 -- Assumes nothing.
-use Rattle.std.proofs.Common.{ℕ, suc, get_or, replicate, refl, ap, add-one, arith}
-use Rattle.words.proofs.Tables.{filled_on}
-use Rattle.words.specs.Table.{tab}
+use Rattle.std.proofs.Common.{◌≡◌, ◌+◌, ◌++◌, ◌∷◌, [], ap, ◌∙◌, sym, drop, get_or, suc, arith}
+use Rattle.std.proofs.lemmas.List.{get_or-take, get_or-drop}
+use Rattle.words.proofs.Tables.{tab-same}
 use Rattle.counter.proofs.queue.shift.Goals as goal
 
-pub loop-i-init : goal.loop-i-init
-unfolding tab
-loop-i-init c = (omega arith, refl)
-
-pub loop-i-preserved : goal.loop-i-preserved
-loop-i-preserved c = let l = c.loop-i in
+pub returns : goal.returns
+returns c =
     let a = c.args.a in
-    (omega arith, filled_on l.i (λ j. get_or a (suc j) 0) (replicate 16 0) l.b _ (omega arith) l.invariant.1 (ap (λ (n : ℕ). get_or a n 0) (add-one l.i)))
+    let moved = c.copy_from_slice.ensures in
+    ap (λ l. l ++ 0 ∷ [])
+    (sym (tab-same 15 (λ i. get_or a (suc i) 0) _ 0 moved.len (λ i h. let one : 1 + i ≡ suc i = omega arith in rw moved.after (sym (get_or-take 15 (drop 1 a) i 0 h ∙ get_or-drop 1 a i 0 ∙ ap (λ j. get_or a j 0) one)))))

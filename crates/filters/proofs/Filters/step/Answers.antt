@@ -31,23 +31,23 @@ module _ (b : lts.After-both tie.the-claims reads.Pre reads.Post) where
 pub returns-then-differing-ne0 : goal.returns-then-differing-ne0
 unfolding filtering_at
 returns-then-differing-ne0 c =
-    let b = c.before.before.before.before.before in
+    let b = c.before.before.before.before.before.before.before.before in
     let a = b.args in
     filtered-by a.self a.raw a.level c.both-on.result _ _
     (λ p h.
     let below = ap (λ v. bit v p) c.below.ensures ∙ bit_word 48 _ p h in
     ap (λ v. bit v p) c.both-on.ensures ∙ bit_word 48 _ p h ∙ ap₂ ◌&&◌ (differing-at b p h) below
     ∙ sym (waits-filtered (not (beq (bit a.raw p) (bit a.level p))) (number_at a.self.wait p) (number_at a.self.filter p)))
-    c.counted-next.ensures c.select.ensures
+    c.counted-self.ensures c.select.ensures
 
 pub returns-then-are_zero : goal.returns-then-are_zero
 returns-then-are_zero c =
-    let b = c.before.before.before.before in
+    let b = c.before.before.before.before.before in
     let a = b.args in
     let none : a.self.wait ≡ planes (λ p. 0) = all-zero a.self.wait (search rules) (sym c.are_zero.ensures ∙ c.if-are_zero.true) in
     (λ i. record { filters = record { filter = a.self.filter; wait = none i }; level = c.cut.ensures i }) ∙ quiet b c.if-differing-ne0.false
 
 pub returns : goal.returns
 returns c =
-    let b = c.before.before.before.before in
+    let b = c.before.before.before.before.before.before in
     rw (c.cut-2.ensures, ← zeros) (quiet b c.if-differing-ne0.false)

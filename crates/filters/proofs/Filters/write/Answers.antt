@@ -5,4 +5,4 @@ use Rattle.filters.proofs.Filters.write.Goals as goal
 
 pub returns : goal.returns
 unfolding put_filter
-returns c = λ i. record { filter = c.put_number-written.ensures i; wait = c.put_number-afresh.ensures i }
+returns c = λ i. record { filter = c.put_number-self.ensures i; wait = c.put_number-self-2.ensures i }

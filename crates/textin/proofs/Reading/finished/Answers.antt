@@ -1,19 +1,18 @@
 -- `textin::Reading::finished` meets its contract.
 -- Assumes nothing.
-use Rattle.std.proofs.Common.{eq-eqb, ne_eqb}
-use Rattle.textin.specs.Readings.{finished}
+use Rattle.std.proofs.Common.{sym, ◌∙◌}
+use Rattle.textin.specs.Readings.{said_at, finished}
+use Rattle.textin.proofs.Stages.{said-whole, said-bad}
 use Rattle.textin.proofs.Reading.finished.Goals as goal
 
-pub returns-then-self-eq-START : goal.returns-then-self-eq-START
-unfolding finished
-returns-then-self-eq-START c = rw (c.of_kind.ensures, eq-eqb _ 0 c.if-self-eq-START.true)
+pub returns-in-Start : goal.returns-in-Start
+unfolding finished said_at
+returns-in-Start c = rw (c.of_kind.ensures, c.in-Start.is)
 
-pub returns-then-is_whole : goal.returns-then-is_whole
+pub returns-in_default : goal.returns-in_default
 unfolding finished
-returns-then-is_whole c =
-    rw (ne_eqb _ 0 c.if-self-eq-START.false, ← c.is_whole.ensures, c.if-is_whole.true)
+returns-in_default c = sym (said-whole c.args.self.stage c.args.self c.in_default.not-Start (sym c.is_whole.ensures ∙ c.if-is_whole.true))
 
-pub returns : goal.returns
+pub returns-in_default-2 : goal.returns-in_default-2
 unfolding finished
-returns c =
-    rw (c.of_kind-2.ensures, c.wanted.ensures, ne_eqb _ 0 c.if-self-eq-START.false, ← c.is_whole.ensures, c.if-is_whole.false)
+returns-in_default-2 c = rw c.wanted.ensures (sym (said-bad c.args.self.stage c.args.self c.in_default.not-Start (sym c.is_whole.ensures ∙ c.if-is_whole.false)))

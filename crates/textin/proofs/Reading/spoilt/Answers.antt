@@ -5,4 +5,4 @@ use Rattle.textin.proofs.Reading.spoilt.Goals as goal
 
 pub returns : goal.returns
 unfolding spoilt
-returns c = rw (c.at.ensures, c.wanted-wanted.ensures)
+returns c = rw (c.at.ensures, c.wanted.ensures)

@@ -1,17 +1,17 @@
 -- `textin::Reading::take_input` meets its contract.
 -- Assumes nothing.
+use Rattle.std.proofs.Common.{sym, ◌∙◌}
 use Rattle.textin.specs.Readings.{take_input}
 use Rattle.textin.proofs.Inputs.{input-below}
 use Rattle.textin.proofs.Reading.take_input.Goals as goal
 
 pub raised-requires : goal.raised-requires
-raised-requires c = rw c.input_of-u.ensures (input-below _)
+raised-requires c = input-below c.args.w.now c.in-Some.u (sym c.input_of.ensures ∙ c.in-Some.is)
 
-pub returns-then-u : goal.returns-then-u
+pub returns-in-Some : goal.returns-in-Some
 unfolding take_input
-returns-then-u c =
-    rw (c.at.ensures, c.raised.ensures, ← c.input_of-u.ensures, c.if-u.true)
+returns-in-Some c = rw (c.raised.ensures, ← c.input_of.ensures, c.in-Some.is)
 
-pub returns : goal.returns
+pub returns-in-None : goal.returns-in-None
 unfolding take_input
-returns c = rw (c.take_star.ensures, ← c.input_of-u.ensures, c.if-u.false)
+returns-in-None c = rw (c.take_star.ensures, ← c.input_of.ensures, c.in-None.is)

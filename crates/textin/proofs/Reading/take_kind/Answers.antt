@@ -1,25 +1,27 @@
 -- `textin::Reading::take_kind` meets its contract.
 -- Assumes nothing.
-use Rattle.std.proofs.Common.{eq-eqb, ne_eqb}
+use Rattle.std.proofs.Common.{◌≡◌, sym, ◌∙◌}
+use borrow.Author.Tests.{ne_eqb}
 use Rattle.textin.specs.Readings.{begun, take_kind}
 use Rattle.textin.proofs.Reading.take_kind.Goals as goal
 
-pub returns-then-k-eq0 : goal.returns-then-k-eq0
+pub returns-in-None : goal.returns-in-None
 unfolding take_kind begun
-returns-then-k-eq0 c =
-    rw (c.at.ensures, c.of_kind.ensures, ← c.kind_of-named.ensures, c.in-Kind.is, eq-eqb _ 0 c.if-k-eq0.true)
+returns-in-None c = rw (c.spoilt.ensures, ← c.kind_of.ensures, c.in-None.is)
 
-pub returns-else-k-eq0 : goal.returns-else-k-eq0
+pub returns-in-Some-Kind-eq0 : goal.returns-in-Some-Kind-eq0
 unfolding take_kind begun
-returns-else-k-eq0 c =
-    rw (c.at-in-Kind.ensures, c.of_kind-in-Kind.ensures, c.fields_of.ensures, ← c.kind_of-named.ensures, c.in-Kind.is, ne_eqb _ 0 c.if-k-eq0.false)
+returns-in-Some-Kind-eq0 c =
+    let arm = c.in-Some-Kind-eq0 in
+    let zero : arm.field-0-0 ≡ 0 = sym arm.field-0-0-is ∙ arm.field-0-0-test in
+    rw (c.new.ensures, ← c.kind_of.ensures, arm.is, arm.field-0-is, zero)
 
-pub returns-in-Raw : goal.returns-in-Raw
+pub returns-in-Some-Kind : goal.returns-in-Some-Kind
 unfolding take_kind begun
-returns-in-Raw c =
-    rw (c.at-in-Raw.ensures, c.of_kind-in-Raw.ensures, ← c.kind_of-named.ensures, c.in-Raw.is)
+returns-in-Some-Kind c =
+    let arm = c.in-Some-Kind in
+    rw (c.new-in-Some-Kind.ensures, c.fields_of.ensures, ← c.kind_of.ensures, arm.is, arm.field-0-is, ne_eqb arm.k 0 (λ e. arm.k-test.1 (arm.k-is ∙ e)))
 
-pub returns-in-Nothing : goal.returns-in-Nothing
+pub returns-in-Some-Raw : goal.returns-in-Some-Raw
 unfolding take_kind begun
-returns-in-Nothing c =
-    rw (c.spoilt.ensures, ← c.kind_of-named.ensures, c.in-Nothing.is)
+returns-in-Some-Raw c = rw (c.new-in-Some-Raw.ensures, ← c.kind_of.ensures, c.in-Some-Raw.is, c.in-Some-Raw.field-0-is)

@@ -3,10 +3,10 @@
 use Rattle.textin.specs.Readings.{take_last}
 use Rattle.textin.proofs.Reading.take_last.Goals as goal
 
-pub returns-then-n : goal.returns-then-n
+pub returns-in-Some : goal.returns-in-Some
 unfolding take_last
-returns-then-n c = rw (c.take_field.ensures, ← c.number-n.ensures, c.if-n.true)
+returns-in-Some c = rw (c.take_field.ensures, ← c.number.ensures, c.in-Some.is)
 
-pub returns : goal.returns
+pub returns-in-None : goal.returns-in-None
 unfolding take_last
-returns c = rw (c.take_star.ensures, ← c.number-n.ensures, c.if-n.false)
+returns-in-None c = rw (c.take_star.ensures, ← c.number.ensures, c.in-None.is)

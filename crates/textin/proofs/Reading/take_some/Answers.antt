@@ -1,46 +1,37 @@
 -- `textin::Reading::take_some` meets its contract.
 -- Assumes nothing.
-use Rattle.std.proofs.Common.{eq-eqb, ne_eqb}
-use Rattle.textin.specs.Readings.{take_some}
+use Rattle.std.proofs.Common.{sym, ap, ◌∙◌}
+use Rattle.textin.specs.Readings.{take_at, take_some}
+use Rattle.textin.proofs.Stages.{at_stage, at-none, at-last, at-some, at-end}
 use Rattle.textin.proofs.Reading.take_some.Goals as goal
 
-pub returns-then-self-eq-START : goal.returns-then-self-eq-START
-unfolding take_some
-returns-then-self-eq-START c = rw (c.take_kind.ensures, eq-eqb _ 0 c.if-self-eq-START.true)
+pub returns-in-Start : goal.returns-in-Start
+unfolding take_some take_at
+returns-in-Start c = c.take_kind.ensures ∙ sym (at_stage _ c.args.self _ c.in-Start.is)
 
-pub returns-then-self-eq0 : goal.returns-then-self-eq0
-unfolding take_some
-returns-then-self-eq0 c =
-    rw (c.take_star.ensures, ne_eqb _ 0 c.if-self-eq-START.false, eq-eqb _ 1 c.if-self-eq-FIELDS.true, eq-eqb _ 0 c.if-self-eq0.true)
+pub returns-then-left-eq0 : goal.returns-then-left-eq0
+unfolding take_some take_at
+returns-then-left-eq0 c = c.take_star.ensures ∙ sym (at_stage _ c.args.self _ c.in-Fields.is ∙ at-none _ _ _ c.if-left-eq0.true)
 
-pub returns-then-self-eq-SELECTOR_LAST : goal.returns-then-self-eq-SELECTOR_LAST
-unfolding take_some
-returns-then-self-eq-SELECTOR_LAST c =
-    rw (c.take_last.ensures, ne_eqb _ 0 c.if-self-eq-START.false, eq-eqb _ 1 c.if-self-eq-FIELDS.true)
-    (rw (ne_eqb _ 0 c.if-self-eq0.false, eq-eqb _ 3 c.if-self-eq-SELECTOR_LAST.true))
+pub returns-then-left-eq-SELECTOR_LAST : goal.returns-then-left-eq-SELECTOR_LAST
+unfolding take_some take_at
+returns-then-left-eq-SELECTOR_LAST c = c.take_last.ensures ∙ sym (at_stage _ c.args.self _ c.in-Fields.is ∙ at-last _ _ _ c.if-left-eq-SELECTOR_LAST.true)
 
-pub returns-then-self-eq-FIELDS : goal.returns-then-self-eq-FIELDS
-unfolding take_some
-returns-then-self-eq-FIELDS c =
-    rw (c.take_field.ensures, ne_eqb _ 0 c.if-self-eq-START.false, eq-eqb _ 1 c.if-self-eq-FIELDS.true)
-    (rw (ne_eqb _ 0 c.if-self-eq0.false, ne_eqb _ 3 c.if-self-eq-SELECTOR_LAST.false))
+pub returns-else-left-eq-SELECTOR_LAST : goal.returns-else-left-eq-SELECTOR_LAST
+unfolding take_some take_at
+returns-else-left-eq-SELECTOR_LAST c = c.take_field.ensures ∙ sym (at_stage _ c.args.self _ c.in-Fields.is ∙ at-some _ _ _ c.if-left-eq0.false c.if-left-eq-SELECTOR_LAST.false)
 
-pub returns-then-self-eq-STEP : goal.returns-then-self-eq-STEP
-unfolding take_some
-returns-then-self-eq-STEP c =
-    rw (c.take_step.ensures, ne_eqb _ 0 c.if-self-eq-START.false, ne_eqb _ 1 c.if-self-eq-FIELDS.false, eq-eqb _ 2 c.if-self-eq-STEP.true)
+pub returns-in-Step : goal.returns-in-Step
+unfolding take_some take_at
+returns-in-Step c = c.take_step.ensures ∙ sym (at_stage _ c.args.self _ c.in-Step.is)
 
-pub returns-then-self-eq-INPUTS : goal.returns-then-self-eq-INPUTS
-unfolding take_some
-returns-then-self-eq-INPUTS c =
-    rw (c.take_input.ensures, ne_eqb _ 0 c.if-self-eq-START.false, ne_eqb _ 1 c.if-self-eq-FIELDS.false, ne_eqb _ 2 c.if-self-eq-STEP.false, eq-eqb _ 3 c.if-self-eq-INPUTS.true)
+pub returns-in-Inputs : goal.returns-in-Inputs
+unfolding take_some take_at
+returns-in-Inputs c = c.take_input.ensures ∙ sym (at_stage _ c.args.self _ c.in-Inputs.is)
 
-pub returns-then-self-eq-TIMES : goal.returns-then-self-eq-TIMES
-unfolding take_some
-returns-then-self-eq-TIMES c =
-    rw (c.take_times.ensures, ne_eqb _ 0 c.if-self-eq-START.false, ne_eqb _ 1 c.if-self-eq-FIELDS.false, ne_eqb _ 2 c.if-self-eq-STEP.false, ne_eqb _ 3 c.if-self-eq-INPUTS.false, eq-eqb _ 4 c.if-self-eq-TIMES.true)
+pub returns-in-Times : goal.returns-in-Times
+unfolding take_some take_at
+returns-in-Times c = c.take_times.ensures ∙ sym (at_stage _ c.args.self _ c.in-Times.is)
 
-pub returns : goal.returns
-unfolding take_some
-returns c =
-    rw (c.spoilt.ensures, ne_eqb _ 0 c.if-self-eq-START.false, ne_eqb _ 1 c.if-self-eq-FIELDS.false, ne_eqb _ 2 c.if-self-eq-STEP.false, ne_eqb _ 3 c.if-self-eq-INPUTS.false, ne_eqb _ 4 c.if-self-eq-TIMES.false)
+pub returns-in-End : goal.returns-in-End
+returns-in-End c = c.spoilt.ensures ∙ sym (at-end c.args.self _ c.in-End.is)

@@ -2,13 +2,14 @@
 -- Assumes nothing.
 use Rattle.words.specs.Table.{tab}
 use Rattle.scan.specs.Bytes.{ascii}
+use Rattle.scan.proofs.Bytes.{same-pointwise}
 use Rattle.textin.specs.Readings.{take_star}
 use Rattle.textin.proofs.Reading.take_star.Goals as goal
 
-pub returns-then-same : goal.returns-then-same
+pub returns-then-eq : goal.returns-then-eq
 unfolding take_star ascii tab
-returns-then-same c = rw (c.at.ensures, ← c.same.ensures, c.if-same.true)
+returns-then-eq c = rw (c.at.ensures, same-pointwise _ _, ← c.as_slice.ensures, ← c.eq.ensures, c.if-eq.true)
 
 pub returns : goal.returns
 unfolding take_star ascii tab
-returns c = rw (c.spoilt.ensures, ← c.same.ensures, c.if-same.false)
+returns c = rw (c.spoilt.ensures, same-pointwise _ _, ← c.as_slice.ensures, ← c.eq.ensures, c.if-eq.false)

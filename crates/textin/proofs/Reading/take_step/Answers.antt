@@ -3,11 +3,10 @@
 use Rattle.textin.specs.Readings.{take_step}
 use Rattle.textin.proofs.Reading.take_step.Goals as goal
 
-pub returns-then-n : goal.returns-then-n
+pub returns-in-Some : goal.returns-in-Some
 unfolding take_step
-returns-then-n c =
-    rw (c.take_field.ensures, c.at-s.ensures, ← c.number-n.ensures, c.if-n.true)
+returns-in-Some c = rw (c.take_field.ensures, ← c.number.ensures, c.in-Some.is)
 
-pub returns : goal.returns
+pub returns-in-None : goal.returns-in-None
 unfolding take_step
-returns c = rw (c.take_input.ensures, ← c.number-n.ensures, c.if-n.false)
+returns-in-None c = rw (c.take_input.ensures, ← c.number.ensures, c.in-None.is)

@@ -1,20 +1,20 @@
 -- `textin::Reading::take_times` meets its contract.
 -- Assumes nothing.
+use borrow.Author.Tests.{ne_eqb, lt-ltb, le-ltb, eq-eqb}
 use Rattle.textin.specs.Readings.{take_times}
-use Rattle.textin.proofs.Reading.take_times.Goals.{then-n+else-n-2, else-n}
+use Rattle.textin.proofs.Reading.take_times.Goals.{in_default-via-in-Some+then-n-ne0+else-n-lt-WORD, in_default-via-in-Some+else-n-ne0, in_default-via-in_default}
 use Rattle.textin.proofs.Reading.take_times.Goals as goal
 
-pub returns-then-n-2 : goal.returns-then-n-2
+pub returns-in-Some : goal.returns-in-Some
 unfolding take_times
-returns-then-n-2 c =
-    rw (c.at.ensures, ← c.number-n.ensures, c.if-n.true, c.if-n-2.true)
+returns-in-Some c = rw (← c.number.ensures, c.in-Some.is, ne_eqb c.in-Some.n 0 c.if-n-ne0.true, lt-ltb c.in-Some.n 4294967296 c.if-n-lt-WORD.true)
 
-pub returns : goal.returns
+pub returns-in_default : goal.returns-in_default
 unfolding take_times
-returns c =
-    let n = c.number-n in
-    rw (c.spoilt.ensures, ← n.ensures)
-    (elim c.if-n.branch [
-      | then-n+else-n-2 w ↦ rw (w.if-n.true, w.if-n-2.false)
-      | else-n w ↦ rw w.if-n.false
-    ])
+returns-in_default c =
+    elim c.in_default.branch [
+      | in_default-via-in-Some+then-n-ne0+else-n-lt-WORD w ↦
+          rw (c.spoilt.ensures, ← c.number.ensures, w.in-Some.is, ne_eqb w.in-Some.n 0 w.if-n-ne0.true, le-ltb w.in-Some.n 4294967296 w.if-n-lt-WORD.false)
+      | in_default-via-in-Some+else-n-ne0 w ↦ rw (c.spoilt.ensures, ← c.number.ensures, w.in-Some.is, eq-eqb w.in-Some.n 0 w.if-n-ne0.false)
+      | in_default-via-in_default w ↦ rw (c.spoilt.ensures, ← c.number.ensures, w.in_default.is)
+    ]

@@ -1,17 +1,19 @@
 -- `textin::reader::holds` meets its contract.
 -- Assumes nothing.
-use Rattle.std.proofs.Common.{◌^◌, sym, arith, le-ltb, lt-ltb, eq-eqb, ne_eqb}
+use Rattle.std.proofs.Common.{arith, sym, ◌^◌}
+use borrow.Author.Tests.{lt-ltb, le-ltb, ne_eqb}
+use Rattle.std.proofs.lemmas.Grind.{common_steps}
 use Rattle.textin.specs.Readings.{room}
 use Rattle.textin.proofs.reader.holds.Goals as goal
 
-pub returns-then-f-lt5 : goal.returns-then-f-lt5
+pub returns-in-5 : goal.returns-in-5
 unfolding room
-returns-then-f-lt5 c = rw (lt-ltb _ 5 c.if-f-lt5.true)
+returns-in-5 c = rw c.in-5.is
 
-pub returns-then-f-eq5 : goal.returns-then-f-eq5
+pub returns-in-0-to-4 : goal.returns-in-0-to-4
 unfolding room
-returns-then-f-eq5 c = rw (le-ltb _ 5 c.if-f-lt5.false, eq-eqb _ 5 c.if-f-eq5.true)
+returns-in-0-to-4 c = rw (lt-ltb c.args.f 5 (omega arith))
 
-pub returns : goal.returns
+pub returns-in_default : goal.returns-in_default
 unfolding room
-returns c = rw (le-ltb _ 5 c.if-f-lt5.false, ne_eqb _ 5 c.if-f-eq5.false) (sym (lt-ltb c.args.n (2 ^ 64) (omega arith)))
+returns-in_default c = rw (le-ltb c.args.f 5 (omega arith), ne_eqb c.args.f 5 (λ e. omega (arith, e))) (sym (lt-ltb c.args.n (2 ^ 64) (omega arith)))

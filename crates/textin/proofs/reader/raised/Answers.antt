@@ -3,10 +3,10 @@
 use Rattle.textin.specs.Readings.{raised}
 use Rattle.textin.proofs.reader.raised.Goals as goal
 
-pub returns-then-u : goal.returns-then-u
+pub returns-in-Line : goal.returns-in-Line
 unfolding raised
-returns-then-u c = rw (c.put.ensures, c.if-u.true)
+returns-in-Line c = rw (c.in-Line.is, c.input_up.ensures)
 
-pub returns : goal.returns
+pub returns-in-Pin : goal.returns-in-Pin
 unfolding raised
-returns c = rw (c.input_up.ensures, c.if-u.false)
+returns-in-Pin c = rw (c.in-Pin.is, c.put.ensures)

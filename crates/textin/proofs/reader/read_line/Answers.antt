@@ -5,4 +5,4 @@ use Rattle.textin.proofs.reader.read_line.Goals as goal
 
 pub returns : goal.returns
 unfolding line_of
-returns c = rw (c.finished.ensures, c.read_words-s.ensures, c.before-n.ensures.front)
+returns c = rw (c.finished.ensures, c.read_words.ensures, c.before-n.ensures.front)

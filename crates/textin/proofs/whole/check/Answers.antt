@@ -1,19 +1,22 @@
 -- `textin::whole::check` meets its contract.
 -- Assumes nothing.
-use Rattle.std.proofs.Common.{false, sym, ◌∙◌, arith}
+use Rattle.std.proofs.Common.{◌≡◌, ℕ, List, sym, ◌∙◌, rules}
+use Rattle.std.specs.Prelude.{fold}
+use Rattle.std.specs.List.{slice_split}
+use Rattle.std.proofs.lemmas.Iterator.Splits.{YieldsList-from_slice_split}
+use Rattle.std.proofs.lemmas.Iterator.Consumers.{fold_from_yields_List}
+use Rattle.scan.specs.declared.Between.TheVariants.{Lines}
 use Rattle.scan.specs.Parts.{between}
+use Rattle.scan.proofs.Parts.{parts-split, over-fold}
 use Rattle.textin.specs.Texts.{lines_of, add_line, no_text, checked}
-use Rattle.textin.proofs.Turns.{first_part, next-part, last-part}
 use Rattle.textin.proofs.whole.check.Goals as goal
 
-pub loop-from-init : goal.loop-from-init
-unfolding checked lines_of
-loop-from-init c = (omega arith, first_part add_line no_text (between false) _)
-
-pub loop-from-preserved : goal.loop-from-preserved
-loop-from-preserved c =
-    let turn = c.loop-from in
-    (omega arith, turn.invariant.1 ∙ next-part add_line turn.t (between false) _ turn.from c.part_end-to.result c.part_end-to.ensures.parts ∙ rw (← c.add_line-added.ensures.text))
-
 pub returns : goal.returns
-returns c = sym (c.loop-from.invariant.1 ∙ last-part add_line _ (between false) _ _ c.loop-from-test.false)
+unfolding checked lines_of
+returns c =
+    let text = c.args.text.now in
+    let e : c.fold.result ≡ fold add_line c.new.result (slice_split (between Lines) text) =
+    fold_from_yields_List _ add_line c.new.result _ c.fold.ensures.ran
+    (YieldsList-from_slice_split _ (between Lines) text c.split.ensures.rest c.split.ensures.done c.split.ensures.closure (λ x b q k. search rules))
+    (λ a x b q k. search rules) in
+    e ∙ rw (c.new.ensures, parts-split (between Lines) text) (sym (over-fold add_line no_text (slice_split (between Lines) text)))

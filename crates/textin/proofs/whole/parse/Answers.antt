@@ -1,27 +1,36 @@
 -- `textin::whole::parse` meets its contract.
 -- Assumes nothing.
-use Rattle.std.proofs.Common.{◌/◌, length, refl, arith, le-ltb, lt-ltb, eq-eqb, ne_eqb}
+use Rattle.std.proofs.Common.{◌/◌, length, arith}
+use borrow.Author.Tests.{le-ltb, lt-ltb}
 use Rattle.textin.specs.Texts.{answered, output}
 use Rattle.textin.proofs.Texts.{records-counted}
 use Rattle.textin.proofs.whole.parse.Goals as goal
 
-pub returns-then-t-ne0 : goal.returns-then-t-ne0
+pub returns-in-Some-clause-answer : goal.returns-in-Some-clause-answer
 unfolding answered output
-returns-then-t-ne0 c = rw (← c.check-t.ensures, ne_eqb _ 0 c.if-t-ne0.true) (record { answer = refl; wrote = refl })
+returns-in-Some-clause-answer c = rw (← c.check-t.ensures, c.in-Some.is)
 
-pub returns-then-out-t : goal.returns-then-out-t
+pub returns-in-Some-clause-wrote : goal.returns-in-Some-clause-wrote
 unfolding answered output
-returns-then-out-t c =
-    let t = c.check-t.result in
-    let a = c.args in
-    rw (← c.check-t.ensures, eq-eqb t.wanted 0 c.if-t-ne0.false, lt-ltb (length a.out.now / 16) t.count (omega arith)) (record { answer = refl; wrote = refl })
+returns-in-Some-clause-wrote c = rw (← c.check-t.ensures, c.in-Some.is)
+
+pub returns-then-out-t-clause-answer : goal.returns-then-out-t-clause-answer
+unfolding answered output
+returns-then-out-t-clause-answer c = rw (← c.check-t.ensures, c.in_default.is, lt-ltb (length c.args.out.now / 16) c.check-t.result.count c.if-out-t.true)
+
+pub returns-then-out-t-clause-wrote : goal.returns-then-out-t-clause-wrote
+unfolding answered output
+returns-then-out-t-clause-wrote c = rw (← c.check-t.ensures, c.in_default.is, lt-ltb (length c.args.out.now / 16) c.check-t.result.count c.if-out-t.true)
 
 pub write-requires : goal.write-requires
 write-requires c =
     let count = rw (← c.check-t.ensures) at (records-counted c.args.text.now) in
-    omega (arith, count c.if-t-ne0.false)
+    omega (arith, count c.in_default.is)
 
-pub returns : goal.returns
+pub returns-clause-answer : goal.returns-clause-answer
 unfolding answered output
-returns c =
-    rw (← c.check-t.ensures, eq-eqb _ 0 c.if-t-ne0.false, le-ltb _ _ c.if-out-t.false) (record { answer = refl; wrote = c.write.ensures })
+returns-clause-answer c = rw (← c.check-t.ensures, c.in_default.is, le-ltb (length c.args.out.now / 16) c.check-t.result.count c.if-out-t.false)
+
+pub returns-clause-wrote : goal.returns-clause-wrote
+unfolding answered output
+returns-clause-wrote c = rw (← c.check-t.ensures, c.in_default.is, le-ltb (length c.args.out.now / 16) c.check-t.result.count c.if-out-t.false) c.write.ensures

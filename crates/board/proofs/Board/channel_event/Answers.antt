@@ -1,8 +1,0 @@
--- `board::Board::channel_event` meets its contract.
--- Assumes nothing.
-use Rattle.board.specs.Respond.{passed_by}
-use Rattle.board.proofs.Board.channel_event.Goals as goal
-
-pub returns : goal.returns
-unfolding passed_by
-returns c = rw c.channel_call-r.ensures
