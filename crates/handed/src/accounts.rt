@@ -39,19 +39,10 @@ fn so_many(n: u64) -> Account {
     }
 }
 
-pub fn show_accounts(rt: &impl Print) {
+// The lost count at its end, with events that capture and that read.
+fn at_the_end(rt: &impl Print, soft: Event, rising: Event, read: Event) {
     let none = so_many(0);
-    let full = so_many(EVERY);
-    let soft = event(8, 0, 0);
-    let rising = event(0, 0, 4);
-    let read = event(11, 0, 0);
     let last = capturing(16, ALL);
-    let long = capturing(17, 0);
-    let two = capturing(2, 0);
-    let lost = capturing(2, 3);
-    let three = capturing(3, 0);
-
-    // The lost count at its end, with events that capture and that read.
     after(
         rt,
         "one below the end, soft",
@@ -62,15 +53,25 @@ pub fn show_accounts(rt: &impl Print) {
     after(rt, "at the end, soft", last, none, soft);
     after(rt, "at the end, a step", last, none, rising);
     after(rt, "at the end, a read", last, none, read);
+}
 
-    // A length of the queue that is out of its range, and members that are not channel 0.
+// A length of the queue that is out of its range, and members that are not channel 0.
+fn out_of_range(rt: &impl Print, soft: Event, rising: Event, read: Event) {
+    let none = so_many(0);
+    let long = capturing(17, 0);
+    let three = capturing(3, 0);
     after(rt, "17 held, soft", long, none, soft);
     after(rt, "17 held, a step", long, none, rising);
     after(rt, "17 held, a read", long, none, read);
     after(rt, "another channel, soft", three, none, event(8, 1, 0));
     after(rt, "no such channel, soft", three, none, event(8, 6, 0));
+}
 
-    // The account's numbers at their end, and close to it.
+// The account's numbers at their end, and close to it.
+fn full_accounts(rt: &impl Print, soft: Event, rising: Event, read: Event) {
+    let full = so_many(EVERY);
+    let two = capturing(2, 0);
+    let lost = capturing(2, 3);
     after(rt, "accounts at their end, soft", two, full, soft);
     after(rt, "accounts at their end, a step", two, full, rising);
     after(rt, "accounts at their end, a read", two, full, read);
@@ -88,4 +89,13 @@ pub fn show_accounts(rt: &impl Print) {
         so_many(EVERY - 2),
         read,
     );
+}
+
+pub fn show_accounts(rt: &impl Print) {
+    let soft = event(8, 0, 0);
+    let rising = event(0, 0, 4);
+    let read = event(11, 0, 0);
+    at_the_end(rt, soft, rising, read);
+    out_of_range(rt, soft, rising, read);
+    full_accounts(rt, soft, rising, read);
 }

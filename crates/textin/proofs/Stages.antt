@@ -1,13 +1,26 @@
 -- Laws of what a line says at each stage.
 -- Assumes nothing.
-use Rattle.std.proofs.Common.{◌≡◌, ◌⊎◌, ℕ, Bool, true, false, List, refl, ap, inl, inr}
+use Rattle.std.proofs.Common.{◌≡◌, ◌⊎◌, ◌<◌, ◌+◌, arith, zero, suc, ℕ, true, false, List, refl, ap, inl, inr}
 use borrow.Author.Tests.{eq-eqb, ne_eqb}
-use Rattle.std.specs.Prelude.{Result, Ok, Err}
+use Rattle.std.specs.Prelude.{Ok, Err}
 use Rattle.textin.specs.declared.Stage.{Stage}
 use Rattle.textin.specs.declared.Stage.TheVariants.{Start, Fields, Step, Inputs, Times, End, Bad}
 use Rattle.textin.specs.declared.Reading.{Reading}
 use Rattle.textin.specs.declared.Wanted.{Wanted}
-use Rattle.textin.specs.Readings.{wanted_by, spoilt, whole, said_at, take_star, take_last, take_field, take_at, take_some}
+use Rattle.textin.specs.Readings.{wanted_number, wanted_field, wanted_by, spoilt, whole, said_at, take_star, take_last, take_field, take_at, take_some}
+
+-- what is wanted where digit f comes next has the number f + 1
+pub field-number : (f : ℕ) → f < 8 → wanted_number (wanted_field f) ≡ f + 1
+unfolding wanted_field
+field-number zero h = refl
+field-number (suc zero) h = refl
+field-number (suc (suc zero)) h = refl
+field-number (suc (suc (suc zero))) h = refl
+field-number (suc (suc (suc (suc zero)))) h = refl
+field-number (suc (suc (suc (suc (suc zero))))) h = refl
+field-number (suc (suc (suc (suc (suc (suc zero)))))) h = refl
+field-number (suc (suc (suc (suc (suc (suc (suc zero))))))) h = refl
+field-number (suc (suc (suc (suc (suc (suc (suc (suc f)))))))) h = omega (arith, h)
 
 -- where it may end it says the event
 pub said-whole : (x : Stage) (s : Reading) → (x ≡ Start → ⊥) → whole x ≡ true → said_at x s ≡ Ok (record { times = s.times; event = s.event })

@@ -1,12 +1,11 @@
 -- Laws of texts: a bad line is the last one that counts, and a good text has as many records as events.
 -- Assumes nothing.
-use Rattle.std.proofs.Common.{◌≡◌, ℕ, suc, ◌+◌, ◌*◌, ◌≤◌, ◌<◌, ◌++◌, map, get_or, take, drop, drop-cons, append-nil, Bool, true, false, cond, eqb, ltb, List, [], ◌∷◌, length, refl, sym, ap, ◌∙◌, arith, length-append, ltb-false}
+use Rattle.std.proofs.Common.{◌≡◌, ℕ, suc, ◌+◌, ◌*◌, ◌≤◌, ◌<◌, ◌++◌, map, get_or, take, drop, drop-cons, append-nil, Bool, true, false, cond, ltb, List, [], ◌∷◌, length, refl, sym, ap, ◌∙◌, arith, length-append, ltb-false}
 use Rattle.std.specs.Borrow.{Bor}
 use Rattle.std.proofs.lemmas.List.{map-append, take-append-drop}
 use Rattle.std.specs.Prelude.{Option, Some, None, is_some, Result, Ok, Err}
 use Rattle.buffers.specs.Pieces.{put}
 use Rattle.buffers.proofs.Put.{put-put}
-use Rattle.buffers.specs.Pieces.{joined}
 use Rattle.scan.specs.Parts.{over}
 use Rattle.scan.proofs.Parts.{over-append}
 use Rattle.textin.specs.declared.Line.{Line}

@@ -75,10 +75,11 @@ wanted_number want.ShortLine = 13
 wanted_number want.FewEvents = 14
 wanted_number want.LastSelector = 15
 
--- what is wanted where field f comes next
+-- what is wanted where digit f comes next: that with the number f + 1. No table of fields has the digits 0 and 7
 unfoldable pub wanted_field : ℕ → Wanted
 wanted_field f =
-    cond (f == 1) want.Kind (cond (f == 2) want.Member (cond (f == 3) want.Selector (cond (f == 4) want.Spare (cond (f == 5) want.V want.W))))
+    cond (f == 0) want.FirstWord (cond (f == 1) want.Kind (cond (f == 2) want.Member (cond (f == 3) want.Selector (cond (f == 4) want.Spare
+    (cond (f == 5) want.V (cond (f == 7) want.Star want.W))))))
 
 -- and at each stage
 unfoldable pub wanted_by : Stage → Wanted

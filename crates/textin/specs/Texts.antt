@@ -1,6 +1,6 @@
 -- docs/TEXT.md, "A text": the events of a whole text, or its first bad line.
 -- Assumes nothing.
-use Rattle.std.specs.Prelude.{ℕ, ◌+◌, ◌*◌, ◌/◌, ◌%◌, ◌^◌, cond, List, [], ◌++◌, length, nat_lt, Option, Some, None, is_some, Result, Ok, Err, is_ok}
+use Rattle.std.specs.Prelude.{ℕ, ◌+◌, ◌*◌, ◌/◌, ◌%◌, ◌^◌, cond, List, [], ◌++◌, length, nat_lt, Some, None, is_some, Result, Ok, Err, is_ok}
 use Rattle.std.specs.Option.{option_map_or}
 use Rattle.buffers.specs.Pieces.{put, joined}
 use Rattle.records.specs.Records.{record_of}

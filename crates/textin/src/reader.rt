@@ -68,16 +68,19 @@ fn holds(f: u32, n: u64) -> bool
     }
 }
 
-// What is wanted where field f comes next.
+// What is wanted where digit f comes next, that with the number f + 1. No table of fields has the
+// digits 0 and 7.
 fn wanted_field(f: u32) -> Wanted
     ensures { result ≡ wanted_field f }
 {
     match f {
+        0 => Wanted::FirstWord,
         1 => Wanted::Kind,
         2 => Wanted::Member,
         3 => Wanted::Selector,
         4 => Wanted::Spare,
         5 => Wanted::V,
+        7 => Wanted::Star,
         _ => Wanted::W,
     }
 }

@@ -1,6 +1,6 @@
 -- `textin::Reading::take_some` meets its contract.
 -- Assumes nothing.
-use Rattle.std.proofs.Common.{sym, ap, ◌∙◌}
+use Rattle.std.proofs.Common.{sym, ◌∙◌}
 use Rattle.textin.specs.Readings.{take_at, take_some}
 use Rattle.textin.proofs.Stages.{at_stage, at-none, at-last, at-some, at-end}
 use Rattle.textin.proofs.Reading.take_some.Goals as goal

@@ -2,7 +2,6 @@
 -- Assumes nothing.
 use Rattle.std.proofs.Common.{arith, sym, ◌^◌}
 use borrow.Author.Tests.{lt-ltb, le-ltb, ne_eqb}
-use Rattle.std.proofs.lemmas.Grind.{common_steps}
 use Rattle.textin.specs.Readings.{room}
 use Rattle.textin.proofs.reader.holds.Goals as goal
 

@@ -1,12 +1,12 @@
 -- `textin::reader::read_words` meets its contract.
 -- Assumes nothing.
-use Rattle.std.proofs.Common.{◌≡◌, ℕ, List, Bool, [], sym, ◌∙◌, rules}
+use Rattle.std.proofs.Common.{◌≡◌, sym, ◌∙◌, rules}
 use Rattle.std.specs.Prelude.{fold}
 use Rattle.std.specs.List.{slice_split}
 use Rattle.std.proofs.lemmas.Iterator.Splits.{YieldsList-from_slice_split}
 use Rattle.std.proofs.lemmas.Iterator.Consumers.{fold_from_yields_List}
 use Rattle.scan.specs.declared.Between.TheVariants.{Words}
-use Rattle.scan.specs.Parts.{between, parts, over}
+use Rattle.scan.specs.Parts.{between}
 use Rattle.scan.proofs.Parts.{parts-split, over-fold}
 use Rattle.textin.specs.Readings.{starting, take_word}
 use Rattle.textin.proofs.reader.read_words.Goals as goal
