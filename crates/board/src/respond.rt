@@ -44,45 +44,17 @@ impl Board {
     }
 }
 
-// The class of a kind.
+// The class of a kind: a match over the call's number, with ranges (docs/DECISIONS.md).
 pub fn class_of(kind: u8) -> Class
     ensures { result ≡ class_of kind }
 {
-    let Ok(kind) = Kind::try_from(kind) else {
-        return Class::Unknown;
-    };
     match kind {
-        Kind::Step => Class::Step,
-        Kind::ModeWrite
-        | Kind::PreloadWrite
-        | Kind::CompareWrite
-        | Kind::RouteWrite
-        | Kind::MaskWrite
-        | Kind::Start
-        | Kind::Halt
-        | Kind::Snapshot
-        | Kind::SoftPreload
-        | Kind::CountRead
-        | Kind::SnapshotRead
-        | Kind::ChannelStatus => Class::OnChannel,
-        Kind::SourceWrite
-        | Kind::PinDataWrite
-        | Kind::PinSafeDataWrite
-        | Kind::PinSafeEnableWrite
-        | Kind::PinLevelRead
-        | Kind::FilterWrite => Class::OnPin,
-        Kind::VirtualDataWrite
-        | Kind::VirtualSafeDataWrite
-        | Kind::VirtualSafeEnableWrite
-        | Kind::VirtualDataRead => Class::OnVirtual,
-        Kind::ControlWrite
-        | Kind::SweWrite
-        | Kind::SafemodeClear
-        | Kind::IntervalWrite
-        | Kind::WatchdogEnableWrite
-        | Kind::WatchdogKick
-        | Kind::TimestampRead
-        | Kind::BoardStatus => Class::OnBoard,
+        0 => Class::Step,
+        1..=12 => Class::OnChannel,
+        13..=17 | 30 => Class::OnPin,
+        18..=21 => Class::OnVirtual,
+        22..=29 => Class::OnBoard,
+        _ => Class::Unknown,
     }
 }
 
