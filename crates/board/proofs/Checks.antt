@@ -9,11 +9,25 @@ use lib.Dec.{ltb}
 use Rattle.words.proofs.Cases.{tested}
 use Rattle.calls.specs.Reply.{refuse}
 use Rattle.calls.specs.Fields.{fits}
+use Rattle.calls.specs.Refused.{code_of}
+use Rattle.calls.specs.declared.refusal.Refusal.{Refusal}
+use Rattle.calls.specs.declared.refusal.Refusal.TheVariants.{Member, Kind, Field, Running, Empty, Lost, Enabled, Barred}
 use Rattle.calls.specs.declared.Event.{Event}
 use Rattle.board.specs.Respond.{class_of, is_barred, refusal_in, refusal_by, passed_by, called_by, called}
 use Rattle.board.specs.declared.Class.{Class}
 use Rattle.board.specs.declared.Class.TheVariants.{Step, OnChannel, OnPin, OnVirtual, OnBoard, Unknown}
 use Rattle.board.specs.declared.Board.{Board}
+
+-- a refusal is told by a result that is not 0
+pub told : (r : Refusal) → code_of r ≡ 0 → ⊥
+told Member z = absurd (omega (arith, z))
+told Kind z = absurd (omega (arith, z))
+told Field z = absurd (omega (arith, z))
+told Running z = absurd (omega (arith, z))
+told Empty z = absurd (omega (arith, z))
+told Lost z = absurd (omega (arith, z))
+told Enabled z = absurd (omega (arith, z))
+told Barred z = absurd (omega (arith, z))
 
 -- what is to be shown of what the checks find, by the cases of the checks
 module _ (n : ℕ) (writes : Bool) (e : Event) where

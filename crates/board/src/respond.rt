@@ -18,10 +18,9 @@ const VIRTUAL_MEMBERS: u8 = ports::VIRTUALS as u8;
 const BOARD_MEMBERS: u8 = 1;
 
 impl Board {
-    // Every event but an accepted step, and its answer. What the event names is taken out of the
-    // board and put back, so that the board stays where it is. That the board is sound is a clause, here
-    // and where `runs` goes from event to event: a type for it would be opened and made anew at each.
-    pub fn call(&mut self, e: Event) -> Answer
+    // Every event but an accepted step, and its answer. What the event names is taken out of the board
+    // and put back, so that the board stays where it is. It trusts the board, so it is not public.
+    pub(crate) fn call(&mut self, e: Event) -> Answer
         requires { in_range self.old ≡ true }
         ensures { reply self.new result ≡ called self.old e }
     {

@@ -37,6 +37,6 @@ fn run(rt: HostRuntime) -> Result<(), Ending> {
 // Its status is 0 also where the input is bad or a write fails, so it answers no Result.
 fn main(rt: HostRuntime) {
     if let Err(why) = run(rt) {
-        streams::tell(rt, "boardturn", why);
+        streams::tell(rt, b"boardturn", why);
     }
 }

@@ -3,10 +3,11 @@
 use mathlib.Core.Path.{◌≡◌, refl, sym, ap, ◌∙◌}
 use mathlib.Core.List.{List, [], ◌∷◌, ◌++◌}
 use Prim.Native.Nat.{ℕ, zero, suc, ◌+◌, ◌*◌, ◌/◌, ◌%◌, ◌^◌, ◌≤◌, ◌<◌}
-use native.Mathlib.Nat.{mul_assoc, pow-succ'}
+use native.Mathlib.Nat.{zero-add, add-zero, suc-add, mul-zero, mul_assoc, div-one, div-div-eq-div-mul, pow-succ'}
+use native.Mathlib.Numerals.{towards_suc}
 use native.Mathlib.Omega.{arith}
 use lib.ListN.{length, take, drop, get_or, length-take, length-drop, take-append-drop, get_or-eq_default}
-use lib.Seq.{length-take-le, get_or-take, get_or-drop, drop-drop, take_at, drop_at, take-append-le, drop-append-le}
+use lib.Seq.{length-take-le, get_or-take, get_or-drop, take-add, drop-drop, take_at, drop_at, drop-cons, take-append-le, drop-append-le}
 use Rattle.buffers.proofs.Joined.{split}
 use Rattle.buffers.specs.Little.{little, value, field}
 
@@ -90,9 +91,42 @@ field-part w n at l i h k =
     let long : length (take n (drop at l)) ≡ n = length-take-le n (drop at l) (simp length-drop (omega arith)) in
     sym (field-append w (take n (drop at l)) (drop n (drop at l)) i (omega arith)) ∙ ap (λ (r : List ℕ). field w r i) (take-append-drop n (drop at l)) ∙ further w at l i
 
+-- the four bytes of a word, one by one
+pub field-four : (l : List ℕ) (i : ℕ) → i + 4 ≤ length l
+    → field 4 l i ≡ get_or l i 0 + 256 * (get_or l (i + 1) 0 + 256 * (get_or l (i + 2) 0 + 256 * get_or l (i + 3) 0))
+unfolding field value
+field-four l i h =
+    simp towards_suc
+    (rw (drop-cons l i 0 (omega arith), drop-cons l (suc i) 0 (omega arith), drop-cons l (suc (suc i)) 0 (omega arith), drop-cons l (suc (suc (suc i))) 0 (omega arith))
+    (simp (mul-zero, add-zero)))
+
+-- a wide number is a low one and a high one
+pub little-split : (v w n : ℕ) → little (v + w) n ≡ little v n ++ little w (n / 256 ^ v)
+unfolding little
+little-split zero w n = simp (zero-add, div-one)
+little-split (suc v) w n =
+    let p : 256 ^ suc v ≡ 256 * 256 ^ v = pow-succ' 256 v in
+    rw (suc-add, p, ← div-div-eq-div-mul n 256 (256 ^ v)) (ap (λ (l : List ℕ). n % 256 ∷ l) (little-split v w (n / 256)))
+
+-- w bytes tell a number only up to a multiple of 256 ^ w
+pub little-low : (w n q : ℕ) → little w (n + 256 ^ w * q) ≡ little w n
+unfolding little
+little-low zero n q = refl
+little-low (suc w) n q =
+    let p : 256 ^ suc w * q ≡ 256 * (256 ^ w * q) = rw (pow-succ' 256 w) (mul_assoc 256 (256 ^ w) q) in
+    let digit : (n + 256 * (256 ^ w * q)) % 256 ≡ n % 256 = omega arith in
+    let above : (n + 256 * (256 ^ w * q)) / 256 ≡ n / 256 + 256 ^ w * q = omega arith in
+    rw (p, digit, above, little-low w (n / 256) q)
+
 pub value-append : (a b : List ℕ) → value (a ++ b) ≡ value a + 256 ^ length a * value b
 unfolding value
 value-append [] b = omega arith
 value-append (x ∷ a) b =
     let p : 256 ^ suc (length a) ≡ 256 * 256 ^ length a = pow-succ' 256 (length a) in
     rw (p, value-append a b, mul_assoc 256 (256 ^ length a) (value b)) (omega arith)
+
+pub field-split : (v w : ℕ) (l : List ℕ) (i : ℕ) → i + v ≤ length l → field (v + w) l i ≡ field v l i + 256 ^ v * field w l (i + v)
+unfolding field
+field-split v w l i h =
+    let long : length (take v (drop i l)) ≡ v = length-take-le v (drop i l) (simp length-drop (omega arith)) in
+    rw (take-add v w (drop i l), value-append (take v (drop i l)) (take w (drop v (drop i l))), long) (simp drop-drop)

@@ -1,6 +1,6 @@
 -- The table of transitions and the clocks: the rule of the table at every entry, where it tells an error, and how large a difference is.
 -- Assumes nothing.
-use Rattle.std.proofs.Common.{◌≡◌, Option, None, ◌<◌, ltb, ℕ, zero, suc, min, lt-ltb, ◌+◌, ◌-◌, ◌*◌, ◌/◌, ◌%◌, ◌≤◌, Bool, true, false, cond, not, ◌&&◌, eqb, List, get_or, ℤ, pos, negsuc, sym, refl, ◌∙◌, arith}
+use Rattle.std.proofs.Common.{◌≡◌, Option, Some, None, ◌<◌, ltb, ℕ, zero, suc, min, lt-ltb, ◌+◌, ◌-◌, ◌*◌, ◌/◌, ◌%◌, ◌≤◌, Bool, true, false, cond, not, ◌&&◌, eqb, List, get_or, ℤ, pos, negsuc, sym, refl, ◌∙◌, arith}
 use lib.Signed.{mag}
 use Rattle.std.specs.Int.{from_bool, int_signum}
 use Rattle.words.specs.Table.{tab}
@@ -101,6 +101,31 @@ module _ (before now : ℕ) where
   looked-up table test = tab-at 16 (λ i. get_or table i None) (λ i. transition (i / 4) (i % 4)) test (place before now) (omega arith) ∙ transition-at
 
   -- ---- errors
+
+  pub transition-small : (d : ℤ) → transition before now ≡ Some d → mag d ≤ 1
+  unfolding transition
+  transition-small d = sized (both_changed before now) (quadrature before now) (quadrature-small before now)
+    where
+      sized : (t : Bool) (q : ℤ) → Small q → cond t None (Some q) ≡ Some d → mag d ≤ 1
+      sized true q s e = cc
+      sized false q s e = let is : q ≡ d = cc in rw (← is) s.small
+
+  -- the table tells an error just where both lines changed
+  pub told : transition before now ≡ None → both_changed before now ≡ true
+  unfolding transition
+  told = only (both_changed before now) (quadrature before now)
+    where
+      only : (t : Bool) (q : ℤ) → cond t None (Some q) ≡ None → t ≡ true
+      only true q e = refl
+      only false q e = cc
+
+  pub untold : (transition before now ≡ None → ⊥) → both_changed before now ≡ false
+  unfolding transition
+  untold = never (both_changed before now) (quadrature before now)
+    where
+      never : (t : Bool) (q : ℤ) → (cond t None (Some q) ≡ None → ⊥) → t ≡ false
+      never true q h = absurd (h refl)
+      never false q h = refl
 
   -- an error counts nothing, by a test of every place
   counted-at : counted (place before now / 4) (place before now % 4) ≡ counted before now

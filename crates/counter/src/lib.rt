@@ -329,7 +329,7 @@ impl Channel {
         self.mask = words::below(REASONS, 0, self.mask);
         self.kept = words::below(SAMPLES, 0, self.kept);
         self.carry = difference::in_carry(self.carry);
-        self.reasons = self.reasons.map(|r| words::below(REASONS, 0, r));
+        self.reasons = queue::in_reasons(self.reasons);
         self.held = words::below(queue::LENGTHS, 0, self.held);
         self
     }

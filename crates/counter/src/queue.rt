@@ -1,8 +1,10 @@
 // The arrays of a capture queue.
 ghost use Rattle.std.specs.Prelude.{◌≡◌, ◌<◌, slice_set};
+ghost use Rattle.words.specs.Range.{all_or_reset};
 ghost use Rattle.counter.specs.Queue.{shifted};
+ghost use Rattle.counter.specs.Repair.{is_reasons};
 
-use crate::QUEUE;
+use crate::{QUEUE, REASONS};
 
 // The captures that a queue holds, as its length is counted.
 pub const ROOM: u32 = QUEUE as u32;
@@ -29,4 +31,12 @@ pub fn shift(a: [u32; QUEUE]) -> [u32; QUEUE]
     let mut b = [0; QUEUE];
     b[..LAST].copy_from_slice(&a[1..]);
     b
+}
+
+// Every place of the reasons' array in its range. It is made place by place: `map` hands each element
+// on by way of an iterator, and takes twice the time of a whole repair (docs/SPEED.md).
+pub fn in_reasons(a: [u32; QUEUE]) -> [u32; QUEUE]
+    ensures { result ≡ all_or_reset is_reasons 0 16 a }
+{
+    std::array::from_fn(|i| words::below(REASONS, 0, a[i]))
 }

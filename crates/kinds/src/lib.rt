@@ -2,8 +2,9 @@
 // each has, and those of a step's inputs.
 #![tactic(auto)]
 
-ghost use Rattle.std.specs.Prelude.{◌≡◌, ◌∷◌, ◌++◌, ◌+◌, ◌≤◌, ◌<◌};
+ghost use Rattle.std.specs.Prelude.{◌≡◌, ◌∷◌, ◌++◌, ◌+◌, ◌≤◌, ◌<◌, length};
 ghost use Rattle.arrayvec.specs.ArrayVec.{array_vec_len};
+ghost use Rattle.buffers.specs.Pieces.{put};
 ghost use Rattle.kinds.specs.Names.{kinds, names, name, raw_name, kind_in, kind_of, fields_of, letter, input_at, input_of, input_name, pin_name};
 
 use arrayvec::ArrayVec;
@@ -146,13 +147,14 @@ pub fn put_name<const N: usize>(line: &mut ArrayVec<u8, N>, k: u8)
     text::put_bytes(line, NAMES[k as usize].as_bytes());
 }
 
-// The word `raw`.
-pub fn put_raw_name<const N: usize>(line: &mut ArrayVec<u8, N>)
-    requires room { array_vec_len line.old + 3 ≤ N }
-    ensures within { array_vec_len line.new ≤ array_vec_len line.old + 3 }
-    ensures wrote { line.new.items ≡ line.old.items ++ raw_name }
+// The word `raw`, from place `at` of a lent buffer on, and the place behind it.
+pub fn put_raw_name(out: &mut [u8], at: usize) -> usize
+    requires { at + 3 ≤ length out.old }
+    ensures within { result ≤ at + 3 }
+    ensures wrote { (result ≡ at + length raw_name) × (out.new ≡ put out.old at raw_name) }
 {
-    text::put_bytes(line, RAW.as_bytes());
+    buffers::copy_to(RAW.as_bytes(), out, at);
+    at + RAW.len()
 }
 
 // The fields that follow the name of kind k.
@@ -201,17 +203,25 @@ pub fn put_input<const N: usize>(line: &mut ArrayVec<u8, N>, i: u64)
     ensures within { array_vec_len line.new ≤ array_vec_len line.old + 3 }
     ensures wrote { line.new.items ≡ line.old.items ++ 32 ∷ input_name i }
 {
-    let letter = LETTERS[(i % 3) as usize];
-    text::put_bytes(line, &[b' ', letter, b'0' + (i / 3) as u8]);
+    line.push(b' ');
+    line.push(LETTERS[(i % 3) as usize]);
+    line.push(b'0' + (i / 3) as u8);
 }
 
 // A space and the name of pin i.
+#[tactic(auto, unfolding(crate::specs::Names::pin_name))]
 pub fn put_pin<const N: usize>(line: &mut ArrayVec<u8, N>, i: u64)
     requires pin { i < 48 }
     requires room { array_vec_len line.old + 4 ≤ N }
     ensures within { array_vec_len line.new ≤ array_vec_len line.old + 4 }
     ensures wrote { line.new.items ≡ line.old.items ++ 32 ∷ pin_name i }
 {
-    text::put_bytes(line, b" p");
-    text::put_decimal(line, i);
+    line.push(b' ');
+    line.push(b'p');
+    if i < 10 {
+        line.push(b'0' + i as u8);
+    } else {
+        line.push(b'0' + (i / 10) as u8);
+        line.push(b'0' + (i % 10) as u8);
+    }
 }

@@ -10,7 +10,7 @@
 // error and ends the program.
 #![tactic(auto)]
 
-ghost use Rattle.std.specs.Prelude.{◌≤◌, IfSome};
+ghost use Rattle.std.specs.Prelude.{◌≡◌, ◌≤◌, IfSome};
 
 use account::{Audit, Balance};
 use arrayvec::{ArrayString, ArrayVec};
@@ -31,12 +31,13 @@ const SPAN: usize = 21;
 // The room of a line of a log.
 const LINE: usize = 126;
 
-// The files of a history.
+// The files of a history, and a line of its levels as it came.
 #[derive(Drop)]
 struct Files {
     text: [u8; SIZE],
     log: [u8; SIZE],
     levels: [u8; SIZE],
+    came: ArrayString<SIZE>,
 }
 
 // What the program says on standard output, which is open until a write fails.
@@ -51,7 +52,7 @@ impl Voice {
         if self.open
             && let Err(why) = streams::print(self.rt, what)
         {
-            streams::tell(self.rt, "scenarios", why);
+            streams::tell(self.rt, b"scenarios", why);
             self.open = false;
         }
     }
@@ -104,10 +105,11 @@ struct Span {
     last: u64,
 }
 
-// The text of the spans that are closed, the steps so far, and the span that is open.
+// The text of the spans that are closed, the steps so far, and the span that is open. The text is lent:
+// one of this size takes longer to make and to hand on than most runs.
 #[derive(Drop)]
-struct Spans {
-    text: ArrayString<SIZE>,
+struct Spans<'a> {
+    text: &'a mut ArrayString<SIZE>,
     steps: u64,
     open: Option<Span>,
 }
@@ -187,7 +189,9 @@ fn load(
 }
 
 // The board and the log before the first event.
-fn start(log: &[u8]) -> Course<'_> {
+fn start(log: &[u8]) -> Course<'_>
+    ensures { result.log.rest.now ≡ log.now }
+{
     Course {
         board: board::reset(),
         events: 0,
@@ -224,7 +228,7 @@ impl Course<'_> {
 // Tells a bad line of a text.
 fn tell_bad(voice: &mut Voice, name: &[u8], line: u64, wanted: Wanted) {
     voice.say(name);
-    let number = u8::from(wanted);
+    let number = u32::from(wanted);
     let _ = writeln!(voice, ": line {line} of the text is bad, wanted {number}");
 }
 
@@ -290,7 +294,7 @@ impl Output {
     }
 }
 
-impl Spans {
+impl Spans<'_> {
     // A byte and a number behind the text, if there is room for the longest.
     fn put(&mut self, mark: char, n: u64) -> fmt::Result {
         if self.text.as_str().len() > SIZE - SPAN {
@@ -326,7 +330,7 @@ impl Spans {
 }
 
 // Runs a text, and writes the spans in which an output is high behind what is written already.
-fn watch(text: &[u8], o: Output, s: &mut Spans) -> fmt::Result {
+fn watch(text: &[u8], o: Output, s: &mut Spans<'_>) -> fmt::Result {
     let mut b = board::reset();
     for line in text.split(|b| *b == b'\n') {
         let Ok(said) = textin::read_line(line) else {
@@ -344,15 +348,17 @@ fn watch(text: &[u8], o: Output, s: &mut Spans) -> fmt::Result {
 }
 
 // What a line of the levels should be, by its first word and a run of the text.
-fn level(text: &[u8], line: &[u8]) -> Result<ArrayString<SIZE>, Untold> {
+fn level(text: &[u8], line: &[u8], came: &mut ArrayString<SIZE>) -> Result<(), Untold> {
     let word = line
         .split(|b| Between::Words.splits(*b))
         .next()
         .unwrap_or(line);
     let o = Output::of(word).ok_or(Untold::NoOutput)?;
     let name = str::from_utf8(word).map_err(|_| Untold::NoOutput)?;
+    came.clear();
+    came.try_push_str(name).map_err(|_| Untold::TooMany)?;
     let mut s = Spans {
-        text: ArrayString::from(name).map_err(|_| Untold::TooMany)?,
+        text: came,
         steps: 0,
         open: None,
     };
@@ -360,7 +366,7 @@ fn level(text: &[u8], line: &[u8]) -> Result<ArrayString<SIZE>, Untold> {
     if s.text.as_str().len() == SIZE {
         return Err(Untold::TooMany);
     }
-    Ok(s.text)
+    Ok(())
 }
 
 // Tells where the levels differ.
@@ -373,10 +379,17 @@ fn tell_level(voice: &mut Voice, name: &[u8], number: u64, line: &[u8], came: im
 }
 
 // Whether a line of the levels agrees with the run; else the difference is told.
-fn run_level(voice: &mut Voice, name: &[u8], number: u64, text: &[u8], line: &[u8]) -> bool {
-    match level(text, line) {
-        Ok(came) if came.as_str().as_bytes() == line => return true,
-        Ok(came) => tell_level(voice, name, number, line, came),
+fn run_level(
+    voice: &mut Voice,
+    name: &[u8],
+    number: u64,
+    text: &[u8],
+    line: &[u8],
+    came: &mut ArrayString<SIZE>,
+) -> bool {
+    match level(text, line, came) {
+        Ok(()) if came.as_str().as_bytes() == line => return true,
+        Ok(()) => tell_level(voice, name, number, line, came.as_str()),
         Err(why) => tell_level(voice, name, number, line, why),
     }
     false
@@ -388,11 +401,17 @@ fn is_level(line: &[u8]) -> bool {
 }
 
 // Looks at all outputs that the levels name, and tells how many agree.
-fn look_all(voice: &mut Voice, name: &[u8], text: &[u8], levels: &[u8]) {
+fn look_all(
+    voice: &mut Voice,
+    name: &[u8],
+    text: &[u8],
+    levels: &[u8],
+    came: &mut ArrayString<SIZE>,
+) {
     let mut good: u64 = 0;
     for (line, number) in levels.split(|b| *b == b'\n').zip(1u64..) {
         if is_level(line) {
-            if !run_level(voice, name, number, text, line) {
+            if !run_level(voice, name, number, text, line, came) {
                 return;
             }
             good = good.wrapping_add(1);
@@ -442,7 +461,7 @@ fn run(voice: &mut Voice, name: &[u8], files: &mut Files) -> Option<()> {
     let k = load(voice, name, b".levels", false, &mut files.levels)?;
     let text = &files.text[..n];
     if run_answers(voice, name, text, &files.log[..m]) {
-        look_all(voice, name, text, &files.levels[..k]);
+        look_all(voice, name, text, &files.levels[..k], &mut files.came);
         audit_text(voice, text);
     }
     Some(())
@@ -461,7 +480,7 @@ fn run_all(voice: &mut Voice, list: &[u8], files: &mut Files) {
 // Runs every history that standard input names.
 fn main(rt: HostRuntime) {
     if let Err(why) = streams::ready(rt) {
-        streams::tell(rt, "scenarios", why);
+        streams::tell(rt, b"scenarios", why);
         return;
     }
     let mut list = [0u8; SIZE];
@@ -469,9 +488,10 @@ fn main(rt: HostRuntime) {
         text: [0; SIZE],
         log: [0; SIZE],
         levels: [0; SIZE],
+        came: ArrayString::new(),
     };
     let mut voice = Voice { rt, open: true };
-    if let Ok(n) = streams::read_all(rt, "scenarios", &mut list) {
+    if let Ok(n) = streams::read_all(rt, b"scenarios", &mut list) {
         run_all(&mut voice, &list[..n], &mut files);
     }
 }

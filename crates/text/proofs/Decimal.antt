@@ -1,6 +1,6 @@
 -- Laws of decimal and hexadecimal digits.
 -- Assumes nothing.
-use mathlib.Core.Path.{◌≡◌, refl}
+use mathlib.Core.Path.{◌≡◌, refl, ◌∙◌}
 use mathlib.Core.List.{List, [], ◌∷◌, ◌++◌}
 use Prim.Native.Nat.{ℕ, zero, suc, ◌+◌, ◌-◌, ◌/◌, ◌%◌, ◌^◌, ◌≤◌, ◌<◌}
 use native.Mathlib.Omega.{arith, pow_step}
@@ -36,6 +36,11 @@ length_digits (suc k) n =
 pub length_decimal : (n : ℕ) → length (decimal n) ≤ 20
 unfolding decimal
 length_decimal n = length_digits 19 n
+
+-- a number of one digit
+pub one_digit : (n : ℕ) → n < 10 → decimal n ≡ digit n ∷ []
+unfolding decimal digit
+one_digit n b = digits-few 19 n (omega arith) b ∙ simp (lt-ltb n 10 b)
 
 -- d + 1 digits are enough below 10^(d + 1)
 digits-below : (d k n : ℕ) → n < 10 ^ suc d → length (digits k n) ≤ suc d

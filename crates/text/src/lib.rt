@@ -18,15 +18,19 @@ pub fn put_bytes<const N: usize>(line: &mut ArrayVec<u8, N>, bytes: &[u8])
     };
 }
 
-// A number in decimal.
-#[tactic(auto, using(crate::proofs::Decimal::length_decimal, crate::proofs::Decimal::decimal_printed))]
+// A number in decimal. Most of those in a log have one digit, which needs no buffer.
+#[tactic(auto, using(crate::proofs::Decimal::length_decimal, crate::proofs::Decimal::decimal_printed, crate::proofs::Decimal::one_digit))]
 pub fn put_decimal<const N: usize>(line: &mut ArrayVec<u8, N>, v: u64)
     requires room { array_vec_len line.old + length (decimal v) ≤ N }
     ensures within { array_vec_len line.new ≤ array_vec_len line.old + 20 }
     ensures wrote { line.new.items ≡ line.old.items ++ decimal v }
 {
-    let mut buffer = Buffer::new();
-    put_bytes(line, buffer.format(v).as_bytes());
+    if v < 10 {
+        line.push(digit(v));
+    } else {
+        let mut buffer = Buffer::new();
+        put_bytes(line, buffer.format(v).as_bytes());
+    }
 }
 
 // A number in decimal and the byte b behind it.

@@ -74,6 +74,7 @@ wanted_number want.End = 12
 wanted_number want.ShortLine = 13
 wanted_number want.FewEvents = 14
 wanted_number want.LastSelector = 15
+wanted_number (want.Other n) = n
 
 -- what is wanted where digit f comes next: that with the number f + 1. No table of fields has the digits 0 and 7
 unfoldable pub wanted_field : ℕ → Wanted

@@ -2,7 +2,7 @@
 // Every text and every buffer is taken; a refusal leaves the output as it was.
 #![tactic(auto)]
 
-ghost use Rattle.std.specs.Prelude.{◌≡◌};
+ghost use Rattle.std.specs.Prelude.{◌≡◌, ◌%◌};
 ghost use Rattle.textin.specs.Readings.{wanted_number};
 ghost use Rattle.textin.specs.Texts.{no_text, code_of};
 
@@ -37,13 +37,15 @@ pub enum Wanted {
     FewEvents,
     // As the star, or a selector that comes last.
     LastSelector,
+    // No line wants this: a number of none of the above, which a text that is handed in may have.
+    Other(u32),
 }
 
 // Its number.
-impl From<Wanted> for u8 {
+impl From<Wanted> for u32 {
     ghost from_gives = { λ wanted number. number ≡ wanted_number wanted };
 
-    fn from(wanted: Wanted) -> u8 {
+    fn from(wanted: Wanted) -> u32 {
         match wanted {
             Wanted::FirstWord => 1,
             Wanted::Kind => 2,
@@ -60,7 +62,17 @@ impl From<Wanted> for u8 {
             Wanted::ShortLine => 13,
             Wanted::FewEvents => 14,
             Wanted::LastSelector => 15,
+            Wanted::Other(number) => number,
         }
+    }
+}
+
+// The same in a byte, which all have but a number that was handed in: of that the lowest byte.
+impl From<Wanted> for u8 {
+    ghost from_gives = { λ wanted number. number ≡ wanted_number wanted % 256 };
+
+    fn from(wanted: Wanted) -> u8 {
+        (u32::from(wanted) % 256) as u8
     }
 }
 

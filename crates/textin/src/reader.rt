@@ -307,13 +307,16 @@ impl Reading {
     }
 }
 
-// What the words of a line say.
+// What the words of a line say. A fold would hand the reading on at each separator, and a line of many
+// takes half as long again.
 fn read_words(words: &[u8]) -> Reading
     ensures { result ≡ over take_word starting (parts (between Words) [] words.now) }
 {
-    words
-        .split(|&b| Between::Words.splits(b))
-        .fold(Reading::new(Stage::Start, 0), |s, w| s.take_word(w))
+    let mut s = Reading::new(Stage::Start, 0);
+    for w in words.split(|&b| Between::Words.splits(b)) {
+        s = s.take_word(w);
+    }
+    s
 }
 
 // What a line says, without its line feed.

@@ -19,7 +19,7 @@
 // of a log the line's number, what was expected and what came.
 #![tactic(auto)]
 
-ghost use Rattle.std.specs.Prelude.{◌≤◌, length};
+ghost use Rattle.std.specs.Prelude.{◌≡◌, ◌+◌, ◌≤◌, length};
 
 use account::{Audit, Balance};
 use arrayvec::ArrayString;
@@ -116,7 +116,9 @@ fn load(rt: HostRuntime, name: &[u8], ending: &[u8], buf: &mut [u8; SIZE]) -> us
 }
 
 // The state before the first place.
-fn start() -> State {
+fn start() -> State
+    ensures { (result.place ≡ 0) × (result.at ≡ 0) }
+{
     State {
         board: board::reset(),
         place: 0,
@@ -127,7 +129,9 @@ fn start() -> State {
 
 impl State {
     // With the lines of the next place in the log.
-    fn log_place(self, bytes: &[u8], more: bool, out: &mut [u8; SIZE]) -> State {
+    fn log_place(self, bytes: &[u8], more: bool, out: &mut [u8; SIZE]) -> State
+        ensures { result.place ≤ self.place + 1 }
+    {
         let p = loglines::print_place(self.board, self.place, bytes, more, &mut out[self.at..]);
         State {
             board: p.board,
@@ -539,7 +543,7 @@ fn main(rt: HostRuntime) {
         out: [0; SIZE],
         back: [0; SIZE],
     };
-    let Ok(n) = streams::read_all(rt, "vectors", &mut table) else {
+    let Ok(n) = streams::read_all(rt, b"vectors", &mut table) else {
         return;
     };
     for line in table[..n].split_inclusive(|b| *b == b'\n') {

@@ -1,25 +1,11 @@
 -- `board::Board::call` meets its contract.
 -- Assumes nothing.
-use Rattle.std.proofs.Common.{◌≡◌, refl, sym, arith}
-use Rattle.calls.specs.Refused.{code_of}
-use Rattle.calls.specs.declared.refusal.Refusal.{Refusal}
-use Rattle.calls.specs.declared.refusal.Refusal.TheVariants.{Member, Kind, Field, Running, Empty, Lost, Enabled, Barred}
-use Rattle.board.proofs.Checks.{named, on-board, refused-call, passes, passed-call}
+use Rattle.std.proofs.Common.{refl, sym}
+use Rattle.board.proofs.Checks.{told, named, on-board, refused-call, passes, passed-call}
 use Rattle.board.proofs.Same.{board-pins}
 use Rattle.board.specs.Respond.{refusal_by, passed_by}
 use Rattle.board.specs.declared.Class.TheVariants.{OnChannel, OnPin, OnVirtual, OnBoard}
 use Rattle.board.proofs.Board.call.Goals as goal
-
--- a refusal is told by a result that is not 0
-told : (r : Refusal) → code_of r ≡ 0 → ⊥
-told Member z = absurd (omega (arith, z))
-told Kind z = absurd (omega (arith, z))
-told Field z = absurd (omega (arith, z))
-told Running z = absurd (omega (arith, z))
-told Empty z = absurd (omega (arith, z))
-told Lost z = absurd (omega (arith, z))
-told Enabled z = absurd (omega (arith, z))
-told Barred z = absurd (omega (arith, z))
 
 pub returns-in-Some : goal.returns-in-Some
 returns-in-Some c =

@@ -1,21 +1,34 @@
 -- `textin::reader::read_words` meets its contract.
 -- Assumes nothing.
-use Rattle.std.proofs.Common.{◌≡◌, sym, ◌∙◌, rules}
-use Rattle.std.specs.Prelude.{fold}
-use Rattle.std.specs.List.{slice_split}
+use Rattle.std.proofs.Common.{◌≡◌, ℕ, ◌++◌, ◌∷◌, List, [], map, ap, ◌∙◌, rules}
+use Rattle.std.specs.Borrow.{Bor}
+use Rattle.std.proofs.lemmas.List.{map-append}
 use Rattle.std.proofs.lemmas.Iterator.Splits.{YieldsList-from_slice_split}
-use Rattle.std.proofs.lemmas.Iterator.Consumers.{fold_from_yields_List}
+use Rattle.std.proofs.lemmas.Iterator.Consumers.{YieldsList-at}
 use Rattle.scan.specs.declared.Between.TheVariants.{Words}
-use Rattle.scan.specs.Parts.{between}
-use Rattle.scan.proofs.Parts.{parts-split, over-fold}
+use Rattle.scan.specs.Parts.{between, over}
+use Rattle.scan.proofs.Parts.{parts-split, over-append}
 use Rattle.textin.specs.Readings.{starting, take_word}
+use Rattle.textin.proofs.Yields.{all-yielded}
+use Rattle.textin.proofs.reader.read_words.Invariants.{so_far}
 use Rattle.textin.proofs.reader.read_words.Goals as goal
+
+more : (ws : List (Bor (List ℕ))) (x : Bor (List ℕ)) → so_far (ws ++ (x ∷ [])) ≡ take_word (so_far ws) x.now
+unfolding over
+more ws x = rw (map-append, over-append take_word starting (map (λ (y : Bor (List ℕ)). y.now) ws) (x.now ∷ []))
+
+pub loop-w-init : goal.loop-w-init
+unfolding over
+loop-w-init c = c.new-s.ensures
+
+pub loop-w-preserved : goal.loop-w-preserved
+loop-w-preserved c = rw (more c.loop-w.yielded c.in-Some.w, ← c.loop-w.invariant) c.take_word-s.ensures
 
 pub returns : goal.returns
 returns c =
     let words = c.args.words.now in
-    let e : c.fold.result ≡ fold take_word c.new.result (slice_split (between Words) words) =
-    fold_from_yields_List _ take_word c.new.result _ c.fold.ensures.ran
-    (YieldsList-from_slice_split _ (between Words) words c.split.ensures.rest c.split.ensures.done c.split.ensures.closure (λ x b q k. search rules))
-    (λ a x b q k. search rules) in
-    e ∙ rw (c.new.ensures, parts-split (between Words) words) (sym (over-fold take_word starting (slice_split (between Words) words)))
+    let turn = c.loop-w in
+    let end = all-yielded turn.yielded _ turn.yielded_by _ _ c.in-None.is c.next.ensures.steps
+    (YieldsList-at c.into_iter-w-iterator.ensures.into_iter_gives
+    (YieldsList-from_slice_split _ (between Words) words c.split-w-items.ensures.rest c.split-w-items.ensures.done c.split-w-items.ensures.closure (λ x b q k. search rules))) in
+    turn.invariant ∙ rw (parts-split (between Words) words) (ap (λ (ws : List (List ℕ)). over take_word starting ws) end)
