@@ -1,10 +1,13 @@
 // Calls 1 to 12, on the channel's own record.
 ghost use Rattle.std.specs.Prelude.{◌≡◌};
-ghost use Rattle.counter.specs.Queue.{captured};
-ghost use Rattle.calls.specs.ChannelCalls.{mode_write, register_write, route_write, start, snapshot, soft_preload, snapshot_read, channel_call};
+ghost use Rattle.calls.specs.ChannelCalls.{mode_write, register_write, preload_write, compare_write, route_write, mask_write, start, halt, snapshot, soft_preload, count_read, snapshot_read, channel_status, channel_call};
 
 use crate::{Answer, Event, Kind, Refusal, Reply};
 use counter::Channel;
+
+// Each call is a function of its own, and sets its fields in a channel of its own: what an arm of one
+// function makes has a place among the values of every call, which is filled with blanks each time
+// (docs/SPEED.md).
 
 // Call 1.
 #[tactic(auto, unfolding(crate::specs::ChannelCalls::mode_write))]
@@ -32,6 +35,22 @@ fn register_write(mut registers: [u32; 2], selector: u8, v: u32) -> [u32; 2]
     registers
 }
 
+// Call 2.
+fn preload_write(selector: u8, v: u32, mut c: Channel) -> Reply<Channel>
+    ensures { result ≡ preload_write selector v c }
+{
+    c.preloads = register_write(c.preloads, selector, v);
+    Reply::accept(c)
+}
+
+// Call 3.
+fn compare_write(selector: u8, v: u32, mut c: Channel) -> Reply<Channel>
+    ensures { result ≡ compare_write selector v c }
+{
+    c.compares = register_write(c.compares, selector, v);
+    Reply::accept(c)
+}
+
 // Call 4.
 #[tactic(auto, unfolding(crate::specs::ChannelCalls::route_write))]
 fn route_write(v: u32, mut c: Channel) -> Reply<Channel>
@@ -44,8 +63,13 @@ fn route_write(v: u32, mut c: Channel) -> Reply<Channel>
     Reply::accept(c)
 }
 
-// The calls that make a channel anew are functions of their own: what they make would else have a place
-// among the values of every call, which is filled with blanks each time (docs/SPEED.md).
+// Call 5.
+fn mask_write(v: u32, mut c: Channel) -> Reply<Channel>
+    ensures { result ≡ mask_write v c }
+{
+    c.mask = v;
+    Reply::accept(c)
+}
 
 // Call 6.
 fn start(c: Channel) -> Reply<Channel>
@@ -54,20 +78,19 @@ fn start(c: Channel) -> Reply<Channel>
     Reply::accept(c.start())
 }
 
-// What call 8 makes of the channel. Where a capture is taken in, every call copies the queue word by
-// word (docs/SPEED.md).
-#[inline(never)]
-fn caught(timestamp: u32, c: Channel) -> Channel
-    ensures { result ≡ (captured c.count timestamp 128 c).channel }
+// Call 7.
+fn halt(mut c: Channel) -> Reply<Channel>
+    ensures { result ≡ halt c }
 {
-    c.capture(c.count, timestamp, counter::SOFT).channel
+    c.running = false;
+    Reply::accept(c)
 }
 
 // Call 8.
 fn snapshot(timestamp: u32, c: Channel) -> Reply<Channel>
     ensures { result ≡ snapshot timestamp c }
 {
-    Reply::accept(caught(timestamp, c))
+    Reply::accept(c.capture(c.count, timestamp, counter::SOFT).channel)
 }
 
 // Call 9.
@@ -75,6 +98,13 @@ fn soft_preload(c: Channel) -> Reply<Channel>
     ensures { result ≡ soft_preload c }
 {
     Reply::accept(c.preload())
+}
+
+// Call 10.
+fn count_read(c: Channel) -> Reply<Channel>
+    ensures { result ≡ count_read c }
+{
+    Reply::tell(c.count, c)
 }
 
 // Call 11.
@@ -104,36 +134,30 @@ fn snapshot_read(mut c: Channel) -> Reply<Channel>
     }
 }
 
-// The call of an event on its channel, at the board's timestamp. A field is set in place: a struct
-// update copies the others one by one (docs/SPEED.md).
+// Call 12.
+fn status(c: Channel) -> Reply<Channel>
+    ensures { result ≡ channel_status c }
+{
+    Reply::tell(words::flags(c.running, c.armed, c.second, false), c)
+}
+
+// The call of an event on its channel, at the board's timestamp.
 #[tactic(auto, unfolding(crate::specs::ChannelCalls::channel_call))]
-pub fn channel_call(timestamp: u32, e: Event, mut c: Channel) -> Reply<Channel>
+pub fn channel_call(timestamp: u32, e: Event, c: Channel) -> Reply<Channel>
     ensures { result ≡ channel_call timestamp e c }
 {
     match Kind::try_from(e.kind) {
         Ok(Kind::ModeWrite) => mode_write(e.v, c),
-        Ok(Kind::PreloadWrite) => {
-            c.preloads = register_write(c.preloads, e.selector, e.v);
-            Reply::accept(c)
-        }
-        Ok(Kind::CompareWrite) => {
-            c.compares = register_write(c.compares, e.selector, e.v);
-            Reply::accept(c)
-        }
+        Ok(Kind::PreloadWrite) => preload_write(e.selector, e.v, c),
+        Ok(Kind::CompareWrite) => compare_write(e.selector, e.v, c),
         Ok(Kind::RouteWrite) => route_write(e.v, c),
-        Ok(Kind::MaskWrite) => {
-            c.mask = e.v;
-            Reply::accept(c)
-        }
+        Ok(Kind::MaskWrite) => mask_write(e.v, c),
         Ok(Kind::Start) => start(c),
-        Ok(Kind::Halt) => {
-            c.running = false;
-            Reply::accept(c)
-        }
+        Ok(Kind::Halt) => halt(c),
         Ok(Kind::Snapshot) => snapshot(timestamp, c),
         Ok(Kind::SoftPreload) => soft_preload(c),
-        Ok(Kind::CountRead) => Reply::tell(c.count, c),
+        Ok(Kind::CountRead) => count_read(c),
         Ok(Kind::SnapshotRead) => snapshot_read(c),
-        _ => Reply::tell(words::flags(c.running, c.armed, c.second, false), c),
+        _ => status(c),
     }
 }
