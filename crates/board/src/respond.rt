@@ -32,9 +32,7 @@ impl Board {
             Class::OnChannel => {
                 let m = e.member as usize;
                 let timestamp = self.core.clock.timestamp;
-                let called = calls::channel_call(timestamp, e, self.channels[m]);
-                self.channels[m] = called.state;
-                called.answer
+                calls::channel_call(timestamp, e, &mut self.channels[m])
             }
             Class::OnPin => calls::pins_call(e, self.pins).store(&mut self.pins),
             Class::OnVirtual => calls::virtuals_call(e, self.virtuals).store(&mut self.virtuals),

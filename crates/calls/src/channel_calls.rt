@@ -1,5 +1,6 @@
 // Calls 1 to 12, on the channel's own record.
 ghost use Rattle.std.specs.Prelude.{◌≡◌};
+ghost use Rattle.calls.specs.Reply.{reply};
 ghost use Rattle.calls.specs.ChannelCalls.{mode_write, register_write, preload_write, compare_write, route_write, mask_write, start, halt, snapshot, soft_preload, count_read, snapshot_read, channel_status, channel_call};
 
 use crate::{Answer, Event, Kind, Refusal, Reply};
@@ -141,23 +142,25 @@ fn status(c: Channel) -> Reply<Channel>
     Reply::tell(words::flags(c.running, c.armed, c.second, false), c)
 }
 
-// The call of an event on its channel, at the board's timestamp.
+// The call of an event on its channel, at the board's timestamp. Each call is stored by itself: what of
+// the channel it leaves as it was is then not copied (docs/SPEED.md).
 #[tactic(auto, unfolding(crate::specs::ChannelCalls::channel_call))]
-pub fn channel_call(timestamp: u32, e: Event, c: Channel) -> Reply<Channel>
-    ensures { result ≡ channel_call timestamp e c }
+pub fn channel_call(timestamp: u32, e: Event, place: &mut Channel) -> Answer
+    ensures { reply place.new result ≡ channel_call timestamp e place.old }
 {
+    let c = *place;
     match Kind::try_from(e.kind) {
-        Ok(Kind::ModeWrite) => mode_write(e.v, c),
-        Ok(Kind::PreloadWrite) => preload_write(e.selector, e.v, c),
-        Ok(Kind::CompareWrite) => compare_write(e.selector, e.v, c),
-        Ok(Kind::RouteWrite) => route_write(e.v, c),
-        Ok(Kind::MaskWrite) => mask_write(e.v, c),
-        Ok(Kind::Start) => start(c),
-        Ok(Kind::Halt) => halt(c),
-        Ok(Kind::Snapshot) => snapshot(timestamp, c),
-        Ok(Kind::SoftPreload) => soft_preload(c),
-        Ok(Kind::CountRead) => count_read(c),
-        Ok(Kind::SnapshotRead) => snapshot_read(c),
-        _ => status(c),
+        Ok(Kind::ModeWrite) => mode_write(e.v, c).store(place),
+        Ok(Kind::PreloadWrite) => preload_write(e.selector, e.v, c).store(place),
+        Ok(Kind::CompareWrite) => compare_write(e.selector, e.v, c).store(place),
+        Ok(Kind::RouteWrite) => route_write(e.v, c).store(place),
+        Ok(Kind::MaskWrite) => mask_write(e.v, c).store(place),
+        Ok(Kind::Start) => start(c).store(place),
+        Ok(Kind::Halt) => halt(c).store(place),
+        Ok(Kind::Snapshot) => snapshot(timestamp, c).store(place),
+        Ok(Kind::SoftPreload) => soft_preload(c).store(place),
+        Ok(Kind::CountRead) => count_read(c).store(place),
+        Ok(Kind::SnapshotRead) => snapshot_read(c).store(place),
+        _ => status(c).store(place),
     }
 }

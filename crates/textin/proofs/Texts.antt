@@ -1,8 +1,8 @@
 -- Laws of texts: a bad line is the last one that counts, and a good text has as many records as events.
 -- Assumes nothing.
-use Rattle.std.proofs.Common.{◌≡◌, ℕ, suc, ◌+◌, ◌*◌, ◌≤◌, ◌<◌, ◌++◌, map, get_or, take, drop, drop-cons, append-nil, Bool, true, false, cond, ltb, List, [], ◌∷◌, length, refl, sym, ap, ◌∙◌, arith, length-append, ltb-false}
+use Rattle.std.proofs.Common.{◌≡◌, ℕ, suc, ◌+◌, ◌*◌, ◌≤◌, ◌<◌, ◌++◌, get_or, take, drop, drop-cons, append-nil, Bool, true, false, cond, ltb, List, [], ◌∷◌, length, refl, sym, ap, ◌∙◌, arith, length-append, ltb-false}
 use Rattle.std.specs.Borrow.{Bor}
-use Rattle.std.proofs.lemmas.List.{map-append, take-append-drop}
+use Rattle.std.proofs.lemmas.List.{take-append-drop}
 use Rattle.std.specs.Prelude.{Option, Some, None, is_some, Result, Ok, Err}
 use Rattle.buffers.specs.Pieces.{put}
 use Rattle.buffers.proofs.Put.{put-put}
@@ -15,6 +15,7 @@ use Rattle.textin.specs.declared.Wanted.TheVariants.{FewEvents, ShortLine}
 use Rattle.textin.specs.Readings.{line_of}
 use Rattle.textin.specs.Texts.{lines_of, among, fitting, added, add_line, no_text, checked, records_of, add_records, records_in}
 use Rattle.textin.proofs.Repeats.{repeated, length-repeated}
+use Rattle.textin.proofs.Yields.{over_parts, over_parts-more}
 
 -- ---- lines
 
@@ -129,11 +130,10 @@ room_for front all n l m s b f e =
 
 -- the records of the lines so far, and with a line more
 abbrev pub so_far : List (Bor (List ℕ)) → List ℕ
-so_far ls = over add_records [] (map (λ (x : Bor (List ℕ)). x.now) ls)
+so_far = over_parts add_records []
 
 pub so-far-more : (ls : List (Bor (List ℕ))) (x : Bor (List ℕ)) → so_far (ls ++ (x ∷ [])) ≡ add_records (so_far ls) x.now
-unfolding over
-so-far-more ls x = rw (map-append, over-append add_records [] (map (λ (y : Bor (List ℕ)). y.now) ls) (x.now ∷ []))
+so-far-more = over_parts-more add_records []
 
 -- a good text has the records of as many events as were counted
 pub counted : (t : Text) (h : List ℕ) (ls : List (List ℕ)) → length h ≡ 16 * t.count → (over add_line t ls).wanted ≡ None

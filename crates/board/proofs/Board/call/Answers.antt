@@ -18,12 +18,6 @@ bounds-self-m c =
     let a = c.args in
     named 6 _ a.e (passes a.self.now a.e _ 0 c.class_of-class.ensures c.in_default.ensures OnChannel c.in-OnChannel.is (refl))
 
-pub bounds-self-m-in-OnChannel : goal.bounds-self-m-in-OnChannel
-unfolding refusal_by
-bounds-self-m-in-OnChannel c =
-    let a = c.args in
-    named 6 _ a.e (passes a.self.now a.e _ 0 c.class_of-class.ensures c.in_default.ensures OnChannel c.in-OnChannel.is refl)
-
 pub pins_call-requires : goal.pins_call-requires
 unfolding refusal_by
 pins_call-requires c =
@@ -43,7 +37,7 @@ pub returns-in-OnChannel : goal.returns-in-OnChannel
 unfolding passed_by
 returns-in-OnChannel c =
     let a = c.args in
-    rw (passed-call a.self.now a.e _ 0 c.class_of-class.ensures c.in_default.ensures OnChannel c.in-OnChannel.is refl, ← c.channel_call-called.ensures)
+    rw (passed-call a.self.now a.e _ 0 c.class_of-class.ensures c.in_default.ensures OnChannel c.in-OnChannel.is refl, ← c.channel_call.ensures)
 
 pub returns-in-OnPin : goal.returns-in-OnPin
 unfolding passed_by

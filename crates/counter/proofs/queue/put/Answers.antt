@@ -1,32 +1,12 @@
--- `counter::queue::put` meets its contract. One equation for each of the sixteen calls, the last first.
+-- `counter::queue::put` meets its contract.
 -- Assumes nothing.
-use Rattle.std.proofs.Common.{◌≡◌, length, arith}
-use Rattle.words.specs.Table.{tab}
+use Rattle.std.proofs.Common.{◌≡◌, cond, eqb, length, get_or, ◌∙◌, rules, arith}
+use Rattle.words.proofs.Arrays.{from_fn_is}
 use Rattle.counter.proofs.Placed.{put_is}
 use Rattle.counter.proofs.queue.put.Goals as goal
 
 pub returns : goal.returns
-unfolding tab
 returns c =
     let args = c.args in
-    let a = args.a in
-    let h : length a ≡ 16 = omega (arith, c.well_formed.0.1) in
-    simp (
-      c.pick-16.ensures,
-      c.pick-15.ensures,
-      c.pick-14.ensures,
-      c.pick-13.ensures,
-      c.pick-12.ensures,
-      c.pick-11.ensures,
-      c.pick-10.ensures,
-      c.pick-9.ensures,
-      c.pick-8.ensures,
-      c.pick-7.ensures,
-      c.pick-6.ensures,
-      c.pick-5.ensures,
-      c.pick-4.ensures,
-      c.pick-3.ensures,
-      c.pick-2.ensures,
-      c.pick.ensures,
-    )
-    (rw h at (put_is a args.at args.x))
+    let h : length args.a ≡ 16 = omega (arith, c.well_formed.0.1) in
+    from_fn_is _ (λ i. cond (eqb i args.at) args.x (get_or args.a i 0)) 0 c.from_fn.ensures.items (λ k y q called. search rules) ∙ rw h at (put_is args.a args.at args.x)

@@ -1,28 +1,21 @@
 -- `textin::reader::read_words` meets its contract.
 -- Assumes nothing.
-use Rattle.std.proofs.Common.{◌≡◌, ℕ, ◌++◌, ◌∷◌, List, [], map, ap, ◌∙◌, rules}
-use Rattle.std.specs.Borrow.{Bor}
-use Rattle.std.proofs.lemmas.List.{map-append}
+use Rattle.std.proofs.Common.{◌≡◌, ℕ, List, ap, ◌∙◌, rules}
 use Rattle.std.proofs.lemmas.Iterator.Splits.{YieldsList-from_slice_split}
 use Rattle.std.proofs.lemmas.Iterator.Consumers.{YieldsList-at}
 use Rattle.scan.specs.declared.Between.TheVariants.{Words}
 use Rattle.scan.specs.Parts.{between, over}
-use Rattle.scan.proofs.Parts.{parts-split, over-append}
+use Rattle.scan.proofs.Parts.{parts-split}
 use Rattle.textin.specs.Readings.{starting, take_word}
-use Rattle.textin.proofs.Yields.{all-yielded}
-use Rattle.textin.proofs.reader.read_words.Invariants.{so_far}
+use Rattle.textin.proofs.Yields.{all-yielded, over_parts-more}
 use Rattle.textin.proofs.reader.read_words.Goals as goal
-
-more : (ws : List (Bor (List ℕ))) (x : Bor (List ℕ)) → so_far (ws ++ (x ∷ [])) ≡ take_word (so_far ws) x.now
-unfolding over
-more ws x = rw (map-append, over-append take_word starting (map (λ (y : Bor (List ℕ)). y.now) ws) (x.now ∷ []))
 
 pub loop-w-init : goal.loop-w-init
 unfolding over
 loop-w-init c = c.new-s.ensures
 
 pub loop-w-preserved : goal.loop-w-preserved
-loop-w-preserved c = rw (more c.loop-w.yielded c.in-Some.w, ← c.loop-w.invariant) c.take_word-s.ensures
+loop-w-preserved c = rw (over_parts-more take_word starting c.loop-w.yielded c.in-Some.w, ← c.loop-w.invariant) c.take_word-s.ensures
 
 pub returns : goal.returns
 returns c =
