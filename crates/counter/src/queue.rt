@@ -34,7 +34,7 @@ pub fn shift(a: [u32; QUEUE]) -> [u32; QUEUE]
 }
 
 // Every place of the reasons' array in its range. It is made place by place: `map` hands each element
-// on by way of an iterator, and an event on a board out of range takes half as long again by it
+// on by way of an iterator, and an event on a board out of range takes twice the time by it
 // (docs/SPEED.md).
 pub fn in_reasons(a: [u32; QUEUE]) -> [u32; QUEUE]
     ensures { result ≡ all_or_reset is_reasons 0 16 a }
