@@ -1,5 +1,6 @@
 pub mod Yields
 pub mod Stages
+pub mod Listed
 pub mod Inputs
 pub mod Repeats
 pub mod Texts

@@ -37,7 +37,7 @@ pub enum Wanted {
     FewEvents,
     // As the star, or a selector that comes last.
     LastSelector,
-    // No line wants this: the number that a text that is handed in may have.
+    // No line wants this (proofs/Listed.antt): the number that a text that is handed in may have.
     Other(u32),
 }
 
