@@ -109,6 +109,12 @@ unfolding over
 over-append f s [] l = refl
 over-append f s (a ∷ k) l = over-append f (f s a) k l
 
+-- what each turn keeps stands at the end
+pub over-kept : {S A : Type 0} (P : S → Type 0) (f : S → A → S) → ((s : S) (a : A) → P s → P (f s a)) → (s : S) (l : List A) → P s → P (over f s l)
+unfolding over
+over-kept P f k s [] h = h
+over-kept P f k s (a ∷ l) h = over-kept P f k (f s a) l (k s a h)
+
 -- it is the library's `fold`
 pub over-fold : {S A : Type 0} (f : S → A → S) (s : S) (l : List A) → over f s l ≡ fold f s l
 unfolding over

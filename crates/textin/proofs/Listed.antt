@@ -1,6 +1,6 @@
 -- What a line wants is one of the fifteen that docs/TEXT.md numbers: `Other` is told of no text but one that was handed in with it.
 -- Assumes nothing.
-use Rattle.std.proofs.Common.{◌≡◌, ◌≤◌, ◌+◌, ◌*◌, ◌/◌, ◌%◌, ◌^◌, ℕ, Bool, true, false, cond, not, ◌&&◌, List, [], ◌∷◌, length, refl, ap, ◌∙◌, arith}
+use Rattle.std.proofs.Common.{◌≡◌, ◌≤◌, ◌+◌, ◌*◌, ◌/◌, ◌%◌, ◌^◌, ℕ, Bool, true, false, cond, not, ◌&&◌, List, [], length, refl, ap, ◌∙◌, arith}
 use Rattle.std.specs.Prelude.{Option, Some, None, is_some, Result, Ok, Err, ◌==◌, nat_lt}
 use Rattle.std.specs.Option.{option_map_or}
 use Rattle.words.proofs.Cases.{either}
@@ -10,6 +10,7 @@ use Rattle.kinds.specs.Names.{kind_of, input_of}
 use Rattle.scan.specs.Bytes.{ascii, same}
 use Rattle.scan.specs.Numbers.{number}
 use Rattle.scan.specs.Parts.{parts, between, before, over}
+use Rattle.scan.proofs.Parts.{over-kept}
 use Rattle.scan.specs.declared.Between.TheVariants.{Words}
 use Rattle.textin.specs.declared.Reading.{Reading}
 use Rattle.textin.specs.declared.Line.{Line}
@@ -23,7 +24,7 @@ use Rattle.textin.specs.declared.Wanted.TheVariants as want
 use Rattle.textin.specs.Readings.{room, wanted_number, wanted_field, wanted_by, spoilt, starting, begun, take_kind, take_field, take_star, take_last, take_input, take_step, take_times, take_at, take_some, take_word, whole, said_at, finished, line_of}
 use Rattle.textin.specs.Texts.{lines_of, among, fitting, added, add_line, no_text, checked, answered}
 
--- one of the fifteen
+-- one of the fifteen, that is, no other
 abbrev pub Listed : Wanted → Type 0
 Listed x = (n : ℕ) → x ≡ want.Other n → ⊥
 
@@ -53,122 +54,117 @@ mapped : {X Y : Type 0} (P : Y → Type 0) (f : X → Y) (o : Option X) {d : Y} 
 mapped P f None p q = q
 mapped P f (Some x) p q = p x
 
--- the stage of a line is not that of a bad one with another
-abbrev At : Stage → Type 0
-At x = (n : ℕ) → x ≡ Bad (want.Other n) → ⊥
+-- a line that is bad at this stage wants one of them; and one that was read so far
+abbrev ListedAt : Stage → Type 0
+ListedAt x = (n : ℕ) → x ≡ Bad (want.Other n) → ⊥
 
-abbrev Reads : Reading → Type 0
-Reads s = At s.stage
+abbrev ListedIn : Reading → Type 0
+ListedIn s = ListedAt s.stage
 
-listed-field : (f : ℕ) → Listed (wanted_field f)
+digit-listed : (f : ℕ) → Listed (wanted_field f)
 unfolding wanted_field
-listed-field f =
+digit-listed f =
     either Listed (f == 0) (λ n e. cc) (either Listed (f == 1) (λ n e. cc) (either Listed (f == 2) (λ n e. cc) (either Listed (f == 3) (λ n e. cc)
     (either Listed (f == 4) (λ n e. cc) (either Listed (f == 5) (λ n e. cc) (either Listed (f == 7) (λ n e. cc) (λ n e. cc)))))))
 
-listed-by : (x : Stage) → At x → Listed (wanted_by x)
+wanted-listed : (x : Stage) → ListedAt x → Listed (wanted_by x)
 unfolding wanted_by
-listed-by Start h = λ n e. cc
-listed-by (Fields left) h = either Listed (left == 0) (λ n e. cc) (either Listed (left == 3) (λ n e. cc) (listed-field (left % 8)))
-listed-by Step h = λ n e. cc
-listed-by Inputs h = λ n e. cc
-listed-by Times h = λ n e. cc
-listed-by End h = λ n e. cc
-listed-by (Bad x) h = λ n e. h n (ap Bad e)
+wanted-listed Start h = λ n e. cc
+wanted-listed (Fields left) h = either Listed (left == 0) (λ n e. cc) (either Listed (left == 3) (λ n e. cc) (digit-listed (left % 8)))
+wanted-listed Step h = λ n e. cc
+wanted-listed Inputs h = λ n e. cc
+wanted-listed Times h = λ n e. cc
+wanted-listed End h = λ n e. cc
+wanted-listed (Bad x) h = λ n e. h n (ap Bad e)
 
-module _ (s : Reading) (h : Reads s) where
-  reads-spoilt : Reads (spoilt s)
+module _ (s : Reading) (h : ListedIn s) where
+  spoilt-listed : ListedIn (spoilt s)
   unfolding spoilt
-  reads-spoilt n e = listed-by s.stage h n cc
+  spoilt-listed n e = wanted-listed s.stage h n cc
 
-  reads-begun : (o : Option Named) → Reads (begun s o)
+  begun-listed : (o : Option Named) → ListedIn (begun s o)
   unfolding begun
-  reads-begun (Some (Kind k)) = either Reads (k == 0) (λ n e. cc) (λ n e. cc)
-  reads-begun (Some Raw) = λ n e. cc
-  reads-begun None = reads-spoilt
+  begun-listed (Some (Kind k)) = either ListedIn (k == 0) (λ n e. cc) (λ n e. cc)
+  begun-listed (Some Raw) = λ n e. cc
+  begun-listed None = spoilt-listed
 
-  reads-star : (w : List ℕ) → Reads (take_star s w)
+  star-listed : (w : List ℕ) → ListedIn (take_star s w)
   unfolding take_star
-  reads-star w = either Reads (same w (ascii "*")) (λ n e. cc) reads-spoilt
+  star-listed w = either ListedIn (same w (ascii "*")) (λ n e. cc) spoilt-listed
 
-  reads-input : (w : List ℕ) → Reads (take_input s w)
+  input-listed : (w : List ℕ) → ListedIn (take_input s w)
   unfolding take_input
-  reads-input w = mapped Reads _ (input_of w) (λ u n e. cc) (reads-star w)
+  input-listed w = mapped ListedIn _ (input_of w) (λ u n e. cc) (star-listed w)
 
-  reads-times : (w : List ℕ) → Reads (take_times s w)
+  times-listed : (w : List ℕ) → ListedIn (take_times s w)
   unfolding take_times
-  reads-times w = mapped Reads _ (number w) (λ t. either Reads (not (t == 0) && nat_lt t (2 ^ 32)) (λ n e. cc) reads-spoilt) reads-spoilt
+  times-listed w = mapped ListedIn _ (number w) (λ t. either ListedIn (not (t == 0) && nat_lt t (2 ^ 32)) (λ n e. cc) spoilt-listed) spoilt-listed
 
-reads-field : (left : ℕ) (s : Reading) (w : List ℕ) → Reads (take_field left s w)
+field-listed : (left : ℕ) (s : Reading) (w : List ℕ) → ListedIn (take_field left s w)
 unfolding take_field
-reads-field left s w =
-    let bad = reads-spoilt (record { stage = Fields left; times = s.times; event = s.event }) (λ n e. cc) in
-    mapped Reads _ (number w) (λ t. either Reads (nat_lt t (room (left % 8))) (λ n e. cc) bad) bad
+field-listed left s w =
+    let bad = spoilt-listed (record { stage = Fields left; times = s.times; event = s.event }) (λ n e. cc) in
+    mapped ListedIn _ (number w) (λ t. either ListedIn (nat_lt t (room (left % 8))) (λ n e. cc) bad) bad
 
-module _ (s : Reading) (h : Reads s) (w : List ℕ) where
-  reads-last : Reads (take_last s w)
+module _ (s : Reading) (h : ListedIn s) (w : List ℕ) where
+  last-listed : ListedIn (take_last s w)
   unfolding take_last
-  reads-last = mapped Reads _ (number w) (λ t. reads-field 3 s w) (reads-star s h w)
+  last-listed = mapped ListedIn _ (number w) (λ t. field-listed 3 s w) (star-listed s h w)
 
-  reads-step : Reads (take_step s w)
+  step-listed : ListedIn (take_step s w)
   unfolding take_step
-  reads-step = mapped Reads _ (number w) (λ t. reads-field 0o65 s w) (reads-input s h w)
+  step-listed = mapped ListedIn _ (number w) (λ t. field-listed 0o65 s w) (input-listed s h w)
 
-  reads-at : (x : Stage) → Reads (take_at x s w)
+  at-listed : (x : Stage) → ListedIn (take_at x s w)
   unfolding take_at take_kind
-  reads-at Start = reads-begun s h (kind_of w)
-  reads-at (Fields left) = either Reads (left == 0) (reads-star s h w) (either Reads (left == 3) reads-last (reads-field left s w))
-  reads-at Step = reads-step
-  reads-at Inputs = reads-input s h w
-  reads-at Times = reads-times s h w
-  reads-at End = reads-spoilt s h
-  reads-at (Bad x) = reads-spoilt s h
+  at-listed Start = begun-listed s h (kind_of w)
+  at-listed (Fields left) = either ListedIn (left == 0) (star-listed s h w) (either ListedIn (left == 3) last-listed (field-listed left s w))
+  at-listed Step = step-listed
+  at-listed Inputs = input-listed s h w
+  at-listed Times = times-listed s h w
+  at-listed End = spoilt-listed s h
+  at-listed (Bad x) = spoilt-listed s h
 
-  reads-word : Reads (take_word s w)
+  word-listed : ListedIn (take_word s w)
   unfolding take_word take_some
-  reads-word = either Reads (length w == 0) h (reads-at s.stage)
-
-reads-words : (s : Reading) → Reads s → (ws : List (List ℕ)) → Reads (over take_word s ws)
-unfolding over
-reads-words s h [] = h
-reads-words s h (w ∷ ws) = reads-words (take_word s w) (reads-word s h w) ws
+  word-listed = either ListedIn (length w == 0) h (at-listed s.stage)
 
 -- ---- what is told
 
 -- of a line
-abbrev Tells : Result Line Wanted → Type 0
-Tells r = (n : ℕ) → r ≡ Err (want.Other n) → ⊥
+abbrev ListedBy : Result Line Wanted → Type 0
+ListedBy r = (n : ℕ) → r ≡ Err (want.Other n) → ⊥
 
-tells-at : (x : Stage) (s : Reading) → At x → Tells (said_at x s)
+said-listed : (x : Stage) (s : Reading) → ListedAt x → ListedBy (said_at x s)
 unfolding said_at
-tells-at Start s h = λ n e. cc
-tells-at (Fields left) s h = either Tells (whole (Fields left)) (λ n e. cc) (λ n e. listed-by (Fields left) h n cc)
-tells-at Step s h = λ n e. cc
-tells-at Inputs s h = λ n e. cc
-tells-at Times s h = λ n e. listed-by Times h n cc
-tells-at End s h = λ n e. cc
-tells-at (Bad x) s h = λ n e. h n cc
+said-listed Start s h = λ n e. cc
+said-listed (Fields left) s h = either ListedBy (whole (Fields left)) (λ n e. cc) (λ n e. wanted-listed (Fields left) h n cc)
+said-listed Step s h = λ n e. cc
+said-listed Inputs s h = λ n e. cc
+said-listed Times s h = λ n e. wanted-listed Times h n cc
+said-listed End s h = λ n e. cc
+said-listed (Bad x) s h = λ n e. h n cc
 
 pub line-listed : (l : List ℕ) (n : ℕ) → line_of l ≡ Err (want.Other n) → ⊥
 unfolding line_of finished
 line-listed l =
     let words = parts (between Words) [] (before 35 l) in
     let s = over take_word starting words in
-    tells-at s.stage s (reads-words starting (λ n e. cc) words)
+    said-listed s.stage s (over-kept ListedIn take_word (λ u w h. word-listed u h w) starting words (λ n e. cc))
 
 -- of a text with a line more: another number is one that it had
 module _ (count size : ℕ) where
-  tells-among : (r : Result Line Wanted) → Tells r → Tells (among count r)
+  among-listed : (r : Result Line Wanted) → ListedBy r → ListedBy (among count r)
   unfolding among
-  tells-among (Err x) h = h
-  tells-among (Ok m) h = either Tells (nat_lt 2031585 (count + m.times)) (λ n e. cc) (λ n e. cc)
+  among-listed (Err x) h = h
+  among-listed (Ok m) h = either ListedBy (nat_lt 2031585 (count + m.times)) (λ n e. cc) (λ n e. cc)
 
-  tells-fitting : (r : Result Line Wanted) → Tells r → Tells (fitting count size r)
+  fitting-listed : (r : Result Line Wanted) → ListedBy r → ListedBy (fitting count size r)
   unfolding fitting
-  tells-fitting r h = either Tells (nat_lt 65535 size) (λ n e. cc) (tells-among r h)
+  fitting-listed r h = either ListedBy (nat_lt 65535 size) (λ n e. cc) (among-listed r h)
 
 module _ (t : Text) where
-  added-listed : (r : Result Line Wanted) → Tells r → (n : ℕ) → (added t r).wanted ≡ Some (want.Other n) → ⊥
+  added-listed : (r : Result Line Wanted) → ListedBy r → (n : ℕ) → (added t r).wanted ≡ Some (want.Other n) → ⊥
   unfolding added
   added-listed (Ok m) h n e = cc
   added-listed (Err x) h n e = h n cc
@@ -177,12 +173,11 @@ module _ (t : Text) where
   unfolding add_line
   text-listed l n =
       either (λ (u : Text). u.wanted ≡ Some (want.Other n) → t.wanted ≡ Some (want.Other n)) (is_some t.wanted) (λ e. e)
-      (λ e. absurd (added-listed (fitting t.count (length l) (line_of l)) (tells-fitting t.count (length l) (line_of l) (line-listed l)) n e))
+      (λ e. absurd (added-listed (fitting t.count (length l) (line_of l)) (fitting-listed t.count (length l) (line_of l) (line-listed l)) n e))
 
 pub texts-listed : (t : Text) (ls : List (List ℕ)) (n : ℕ) → (over add_line t ls).wanted ≡ Some (want.Other n) → t.wanted ≡ Some (want.Other n)
-unfolding over
-texts-listed t [] n e = e
-texts-listed t (l ∷ ls) n e = text-listed t l n (texts-listed (add_line t l) ls n e)
+texts-listed t ls n =
+    over-kept (λ (u : Text). u.wanted ≡ Some (want.Other n) → t.wanted ≡ Some (want.Other n)) add_line (λ u l h e. h (text-listed u l n e)) t ls (λ e. e)
 
 -- of a whole text
 pub checked-listed : (text : List ℕ) (n : ℕ) → (checked text).wanted ≡ Some (want.Other n) → ⊥

@@ -7,7 +7,7 @@ use Rattle.std.specs.Prelude.{Option, Some, None, is_some, Result, Ok, Err}
 use Rattle.buffers.specs.Pieces.{put}
 use Rattle.buffers.proofs.Put.{put-put}
 use Rattle.scan.specs.Parts.{over}
-use Rattle.scan.proofs.Parts.{over-append}
+use Rattle.scan.proofs.Parts.{over-append, over-kept}
 use Rattle.textin.specs.declared.Line.{Line}
 use Rattle.textin.specs.declared.Text.{Text}
 use Rattle.textin.specs.declared.Wanted.{Wanted}
@@ -44,9 +44,7 @@ unfolding add_line
 bad-line t l h = rw h
 
 pub bad-lines : (t : Text) (ls : List (List ℕ)) → is_some t.wanted ≡ true → over add_line t ls ≡ t
-unfolding over
-bad-lines t [] h = refl
-bad-lines t (l ∷ ls) h = rw (bad-line t l h) (bad-lines t ls h)
+bad-lines t ls h = over-kept (λ (u : Text). u ≡ t) add_line (λ u l e. rw e (bad-line t l h)) t ls refl
 
 -- so a good text was good all along
 pub good-lines : (t : Text) (ls : List (List ℕ)) → (over add_line t ls).wanted ≡ None → t.wanted ≡ None
@@ -103,9 +101,7 @@ length-added h l = simp (length-append, length-records)
 
 -- lines add records and take none away
 pub longer : (h : List ℕ) (ls : List (List ℕ)) → length h ≤ length (over add_records h ls)
-unfolding over
-longer h [] = omega arith
-longer h (l ∷ ls) = omega (arith, length-added h l, longer (add_records h l) ls)
+longer h ls = over-kept (λ (g : List ℕ). length h ≤ length g) add_records (λ g l k. omega (arith, k, length-added g l)) h ls (omega arith)
 
 -- the records of one line more, behind those at the start of an output
 pub added-put : (d h l : List ℕ) (at : ℕ) (m : Line) → line_of l ≡ Ok m → at ≡ length h → at + 16 * m.times ≤ length d
